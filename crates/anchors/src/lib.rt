@@ -1,0 +1,1 @@
+// The anchor file over an accepted graph file: its definitions are in specs/.
