@@ -1,0 +1,1 @@
+// Chains of anchors over a graph: the definitions are in specs/.

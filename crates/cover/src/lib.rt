@@ -1,0 +1,1 @@
+// Walks, tables and distances over a graph: the definitions are in specs/.

@@ -1,0 +1,12 @@
+pub mod Upto
+pub mod Counts
+pub mod InPlace
+pub mod Nearing
+pub mod Choice
+pub mod Target
+pub mod Gather
+pub mod Relax
+pub mod Table
+pub mod Fits
+pub mod Turns
+pub mod Examples
