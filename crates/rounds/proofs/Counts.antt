@@ -79,6 +79,13 @@ module _ {S : Type 0} (round : S → S) where
   iterate-keeps P h zero s p = p
   iterate-keeps P h (suc k) s p = h (iterate round k s) (iterate-keeps P h k s p)
 
+  -- Rounds of another state that mirror these are as many: code may keep the same table in another form, or make the rounds in another way.
+  pub rounds-mirror : {S′ : Type 0} (round′ : S′ → S′) (form : S → S′) (P : S → Type 0) → ((s : S) → P s → P (round s)) → ((s : S) → P s → round′ (form s) ≡ form (round s))
+      → ((s t : S) → P s → P t → form s ≡ form t → s ≡ t) → {s t : S} {k : ℕ} → Rounds round s k t → P s → Rounds round′ (form s) k (form t)
+  rounds-mirror round′ form P keep mirror inj (quiet {s = s} e) p = quiet (mirror s p ∙ ap form e)
+  rounds-mirror round′ form P keep mirror inj (busy {s = s} {t = t} {k = k} h r) p = busy (λ e. h (inj (round s) s (keep s p) p (sym (mirror s p) ∙ e)))
+      (subst (λ x. Rounds round′ x k (form t)) (sym (mirror s p)) (rounds-mirror round′ form P keep mirror inj r (keep s p)))
+
   module _ (same : Discrete S) where
     -- where round j + 1 would be quiet, the rounds end by then
     pub settle : (j : ℕ) (s : S) → round (iterate round j s) ≡ iterate round j s → Ends (suc j) round s

@@ -164,21 +164,21 @@ module _ {n : ℕ} {c : Column} (W : Lawful n c) (fades : (u v : ℕ) (a : Link 
 
 -- ---- the three kinds
 
-module _ (n : ℕ) (l : Links) (some : 1 ≤ n) (sources : Sources n l) where
+module _ (n : ℕ) (l : Links) (filled : 1 ≤ n) (sources : Sources n l) where
   module _ (starts : ℕ → ℕ) where
     pub greatest-lawful : Lawful n (greatestColumn l starts)
     greatest-lawful = record { order = max-order; sources = sources; mono = λ a w h. h; inj = λ a w h e. e }
 
     pub greatest-fit : Fit n (greatestColumn l starts)
-    greatest-fit = best-start-fit greatest-lawful (λ u v a x. le-refl x) some
-        (λ v w. let (e, _, h) = best-start greatest-lawful (λ u v a x. le-refl x) some in bounded-target _ starts v (starts e) (λ x d. under-starts greatest-lawful (λ u v a x. le-refl x) (starts e) h d w))
+    greatest-fit = best-start-fit greatest-lawful (λ u v a x. le-refl x) filled
+        (λ v w. let (e, _, h) = best-start greatest-lawful (λ u v a x. le-refl x) filled in bounded-target _ starts v (starts e) (λ x d. under-starts greatest-lawful (λ u v a x. le-refl x) (starts e) h d w))
 
   module _ (far starts : ℕ → ℕ) where
     pub least-lawful : Lawful n (leastColumn l far starts)
     least-lawful = record { order = near-order; sources = sources; mono = λ a w {x} {y} h. shift-near _ x y h; inj = λ a w {x} {y} _ e. shift-inj _ x y e }
 
     pub least-fit : Fit n (leastColumn l far starts)
-    least-fit = best-start-fit least-lawful (λ u v a x. shift-far (far (a .e)) x) some (λ v w. near-target _ starts v)
+    least-fit = best-start-fit least-lawful (λ u v a x. shift-far (far (a .e)) x) filled (λ v w. near-target _ starts v)
 
   -- a score's entry that is final at the start is the first by a number that rises along the links
   module _ (weight : ℕ → ℕ) (gap : ℕ → ℕ → ℕ) (heavy : (v : ℕ) → Within n v → 1 ≤ weight v) (rank : ℕ → ℕ) (rises : (u v : ℕ) → Link l u v → rank u < rank v) where
@@ -195,7 +195,7 @@ module _ (n : ℕ) (l : Links) (some : 1 ≤ n) (sources : Sources n l) where
 
     pub score-fit : Fit n (scoreColumn l weight gap)
     score-fit =
-        let (e, w, h) = best-at (λ x y. y ≤ x) (λ x y. either (decLe y x)) (λ x y z a b. le-trans b a) rank n some in
+        let (e, w, h) = best-at (λ x y. y ≤ x) (λ x y. either (decLe y x)) (λ x y z a b. le-trans b a) rank n filled in
         record { lawful = score-lawful; target = target; entry = e; among = w; final = record { derived = start; top = λ x d. alone e h d } }
       where
         either : {x y : ℕ} → Dec (y ≤ x) → (y ≤ x) ⊎ (x ≤ y)
@@ -208,5 +208,5 @@ module _ (n : ℕ) (l : Links) (some : 1 ≤ n) (sources : Sources n l) where
 
         target : (v : ℕ) → Within n v → Some ((a : ℕ) × Best (scoreColumn l weight gap) v a)
         target v w =
-            let (e, _, h) = best-at _≤_ (λ x y. either (decLe x y)) (λ x y z. le-trans) weight n some in
+            let (e, _, h) = best-at _≤_ (λ x y. either (decLe x y)) (λ x y z. le-trans) weight n filled in
             bounded-target _ weight v (suc (rank v) * weight e) (λ x d. score-bound (weight e) h d w)

@@ -87,3 +87,10 @@ module _ {X : ℕ → Type 0} {good : ℕ → ℕ → Type 0} {join : ℕ → �
 pub value-ext : (r : Rule) (f g : ℕ → ℕ) (v : ℕ) → f v ≡ g v → ((e : ℕ) → Within (r .links .m) e → f (r .links .source e) ≡ g (r .links .source e)) → value r f v ≡ value r g v
 unfolding value
 value-ext r f g v p h = gather-ext (r .join) (r .links .into? v) _ _ _ _ (r .links .m) p (λ e w _. ap (r .carry v e) (h e w))
+
+-- so an x that is the entry's own value or brought by a link into it, and is at least as good as all of these, is what it takes
+pub value-is : (r : Rule) {good : ℕ → ℕ → Type 0} (O : Order good (r .join)) (has : ℕ → ℕ) (v x : ℕ)
+    → (x ≡ has v) ⊎ ((e : ℕ) × Within (r .links .m) e × r .links .Into v e × (x ≡ r .carry v e (has (r .links .source e))))
+    → good (has v) x → ((e : ℕ) → Within (r .links .m) e → r .links .Into v e → good (r .carry v e (has (r .links .source e))) x) → x ≡ value r has v
+unfolding value
+value-is r O has v x one own each = gather-is O (r .links .into? v) (λ e. r .carry v e (has (r .links .source e))) (has v) (r .links .m) x one own each

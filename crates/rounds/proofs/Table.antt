@@ -1,23 +1,23 @@
 -- THE THEOREM OF THE ROUNDS for a table in a list: `table-settles`; for one of up to sixteen columns, `sixteen-settles`; for a vector, `vector-settles`.
 -- Assumes nothing.
-use mathlib.Core.Path.{_≡_, refl, sym, _∙_}
+use mathlib.Core.Path.{_≡_, refl, sym, ap, _∙_}
 use mathlib.Core.Logic.{_≢_, _⊎_, inl, inr}
 use mathlib.Core.List.{List, List-discrete}
-use Prim.Native.Nat.{ℕ, zero, suc, _*_, _≤_}
-use native.Mathlib.Nat.{le-refl}
+use Prim.Native.Nat.{ℕ, zero, suc, _+_, _*_, _≤_, _<_}
+use native.Mathlib.Nat.{le-refl, add-zero, add-suc}
 use native.Mathlib.Decide.{ℕ-discrete}
 use native.Mathlib.Omega.{arith}
 use lib.ListN.{length, getD, set, length-set}
 use lib.Seq.{getD-set-same, getD-set-other, ext-getD}
-use Rattle.rounds.specs.Rounds.{Within, sweep}
+use Rattle.rounds.specs.Rounds.{Within, sweep, Rounds}
 use Rattle.rounds.specs.Rule.{Rule, value}
 use Rattle.rounds.specs.Place.{Places, cellPlace, entryPlace}
-use Rattle.rounds.specs.Table.{cell, cellStep, rowStep, tableRound, entry, vectorRound}
+use Rattle.rounds.specs.Table.{cell, cellStep, rowStep, tableRound, entry, entryStep, vectorRound}
 use Rattle.rounds.specs.Best.{Link, Column, Sources, Fit, Started, Finished}
 use Rattle.rounds.specs.Loop.{Settles}
 use Rattle.rounds.proofs.Upto.{within, within-last, within-suc, within-none, within-cases, all-or-not}
-use Rattle.rounds.proofs.Counts.{settles-map}
-use Rattle.rounds.proofs.InPlace.{Local, Keeps, sweep-keeps}
+use Rattle.rounds.proofs.Counts.{settles-map, rounds-mirror}
+use Rattle.rounds.proofs.InPlace.{Local, Keeps, sweep-keeps, round-keeps}
 use Rattle.rounds.proofs.Gather.{value-ext, gather-first, gather-each, gather-one}
 use Rattle.rounds.proofs.Relax.{Takes, relax}
 
@@ -117,6 +117,36 @@ module _ (place : ℕ → ℕ → ℕ) (n wide len : ℕ) (L : Places place n wi
     -- a row's step that leaves its cells leaves the table
     row-fix : (v : ℕ) (s : List ℕ) → Within n v → length s ≡ len → ((i : ℕ) → Within wide i → cell place v i (rowStep place rules wide v s) ≡ cell place v i s) → rowStep place rules wide v s ≡ s
     row-fix v s w l h = sym (row-is v s s w l refl (λ i k. sym (h i k) ∙ row-value v i s w k l) (λ q _. refl))
+
+-- Columns past `wide` whose cells no step changes may be taken along or left out: the rounds are the same.
+module _ (place : ℕ → ℕ → ℕ) (rules : ℕ → Rule) (n wide more : ℕ) (P : List ℕ → Type 0)
+    (keeps : (v : ℕ) → Within n v → Keeps wide (cellStep place rules v) P)
+    (spare : (v i : ℕ) (t : List ℕ) → Within n v → wide < i → i ≤ wide + more → P t → cellStep place rules v i t ≡ t)
+  where
+    spare-row : (v : ℕ) (t : List ℕ) → Within n v → P t → rowStep place rules (wide + more) v t ≡ rowStep place rules wide v t
+    unfolding rowStep sweep
+    spare-row v t w p = go more (le-refl more)
+      where
+        go : (j : ℕ) → j ≤ more → sweep (cellStep place rules v) (wide + j) t ≡ sweep (cellStep place rules v) wide t
+        go zero l = rw add-zero
+        go (suc j) l = rw add-suc (ap (cellStep place rules v (suc (wide + j))) (go j (omega arith)) ∙ spare v (suc (wide + j)) _ w (omega arith) (omega arith) (sweep-keeps wide (cellStep place rules v) P (keeps v w) wide t (le-refl wide) p))
+
+    spare-round : (t : List ℕ) → P t → tableRound place rules (wide + more) n t ≡ tableRound place rules wide n t
+    unfolding sweep
+    spare-round t p = go n (le-refl n)
+      where
+        go : (m : ℕ) → m ≤ n → sweep (rowStep place rules (wide + more)) m t ≡ sweep (rowStep place rules wide) m t
+        go zero l = refl
+        go (suc m) l = ap (rowStep place rules (wide + more) (suc m)) (go m (omega arith))
+            ∙ spare-row (suc m) _ (within (omega arith) l) (sweep-keeps n (rowStep place rules wide) P (row-keeps place rules n wide P keeps) m t (omega arith) p)
+
+    pub spare-columns : {s t : List ℕ} {k : ℕ} → Rounds (tableRound place rules wide n) s k t → P s → Rounds (tableRound place rules (wide + more) n) s k t
+    spare-columns r p = rounds-mirror (tableRound place rules wide n) (tableRound place rules (wide + more) n) (λ t. t) P (round-keeps n (rowStep place rules wide) P (row-keeps place rules n wide P keeps)) spare-round (λ _ _ _ _ e. e) r p
+
+-- an entry's step leaves the other entries of a vector
+pub entry-local : (n : ℕ) (rule : Rule) → Local n (entryStep rule) entry
+unfolding cellStep
+entry-local n rule u v s wu w h = getD-set-other s (entryPlace v 1) (entryPlace u 1) _ 0 (λ e. h (omega arith))
 
 -- ---- the theorem
 

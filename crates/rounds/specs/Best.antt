@@ -27,7 +27,7 @@ pub record Column : Type 1 where
   pub good : ℕ → ℕ → Type 0
 
 module _ (c : Column) where
-  -- x can come to entry v: it starts there, or a link carries it there from an entry to which its value can come
+  -- x can come to entry v: v starts at it, or a link carries it to v from a value that can come to the link's source
   pub data Derived : ℕ → ℕ → Type 0 where
     start : {v : ℕ} → Derived v (c .starts v)
     along : {u v x : ℕ} → Derived u x → (a : Link (c .rule .links) u v) → Derived v (c .rule .carry v (a .e) x)
@@ -37,11 +37,11 @@ module _ (c : Column) where
     pub derived : Derived v a
     pub top : (x : ℕ) → Derived v x → c .good x a
 
--- there is such a thing, though nothing need say which: that there is none is not so
+-- There is one, though nothing need say which: it is not so that there is none.
 abbrev pub Some : Type 0 → Type 0
 Some A = ¬ ¬ A
 
--- what is asked of "at least as good" and of "the better of two"
+-- What is asked of "at least as good", and of the better of two: it is an order, and the better is one of the two and at least as good as both.
 pub record Order (good : ℕ → ℕ → Type 0) (join : ℕ → ℕ → ℕ) : Type 0 where
   pub good? : (x y : ℕ) → Dec (good x y)
   pub refl : {x : ℕ} → good x x
@@ -51,14 +51,16 @@ pub record Order (good : ℕ → ℕ → Type 0) (join : ℕ → ℕ → ℕ) : 
   pub right : (x y : ℕ) → good y (join x y)
   pub which : (x y : ℕ) → (join x y ≡ x) ⊎ (join x y ≡ y)
 
--- What is asked of a column of n entries. `inj` is asked only of what is worth its place: at least as good as the start there.
+-- What is asked of a column of n entries.
 pub record Lawful (n : ℕ) (c : Column) : Type 0 where
   pub order : Order (c .good) (c .rule .join)
   pub sources : Sources n (c .rule .links)
+  -- a link carries the better value to the better
   pub mono : {u v : ℕ} (a : Link (c .rule .links) u v) → Within n v → {x y : ℕ} → c .good x y → c .good (c .rule .carry v (a .e) x) (c .rule .carry v (a .e) y)
+  -- and different values to different ones, where they are worth their place: at least as good as the start there
   pub inj : {u v : ℕ} (a : Link (c .rule .links) u v) → Within n v → {x y : ℕ} → c .good (c .starts v) (c .rule .carry v (a .e) x) → c .rule .carry v (a .e) x ≡ c .rule .carry v (a .e) y → x ≡ y
 
--- A column of n entries that is fit for its rounds: each entry has a target, and one entry starts at its own ("final at the start").
+-- A column of n entries that is fit for its rounds: it is lawful, each entry has a target, and one entry is final at the start.
 pub record Fit (n : ℕ) (c : Column) : Type 0 where
   pub lawful : Lawful n c
   pub target : (v : ℕ) → Within n v → Some ((a : ℕ) × Best c v a)

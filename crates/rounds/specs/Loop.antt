@@ -21,15 +21,16 @@ pub record Ends {S : Type 0} (n : ℕ) (round : S → S) (s : S) : Type 0 where
   pub count : ℕ
   pub last : S
   pub rounds : Rounds round s count last
-  -- "Each count is reported and never exceeds n."
   pub bound : count ≤ n
 
--- THE ROUNDS FROM s, AS DOCUMENT 01 HAS THEM: there is one at least, there are at most n, what they leave is Done; and no other count or result is the rule's
+-- The rounds from s, all that document 01 says of them: what they leave is Done; their count is 1 to n; and no other count or result is the rule's.
 pub record Settles {S : Type 0} (n : ℕ) (round : S → S) (Done : S → Type 0) (s : S) : Type 0 where
   pub count : ℕ
   pub last : S
+  -- "The round that changes nothing is counted and is the last."
   pub rounds : Rounds round s count last
   pub first : 1 ≤ count
+  -- "Each count is reported and never exceeds n."
   pub bound : count ≤ n
   pub done : Done last
   pub only : (k : ℕ) (t : S) → Rounds round s k t → (k ≡ count) × (t ≡ last)

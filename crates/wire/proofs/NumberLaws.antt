@@ -10,35 +10,13 @@ use lib.ListN.{length, getD, take, drop, length-append, length-drop}
 use lib.Seq.{drop-append-seam, take-append-seam, getD-drop, drop-drop}
 use borrow.Author.Tests.{lt-ltb, le-ltb}
 use Rattle.wire.specs.Numbers.{encodeIn, encode}
+use Rattle.wire.specs.Refusals.{bytesEnd, badNumber}
 use Rattle.wire.specs.Numbers.{ended, numberIn, numberAt}
 use Rattle.wire.specs.declared.numbers.Cursor.{Cursor}
 use Rattle.wire.specs.declared.numbers.Number.{Number}
 use Rattle.wire.specs.declared.numbers.Number.the-variants.{Value, Fault}
-use Rattle.wire.proofs.Reading.{ended-refused, ended-whole, ended-first}
+use Rattle.wire.proofs.Reading.{ended-refused, ended-whole, ended-first, none-in, great-in, fifth-in, last-in, next-in}
 use Rattle.wire.proofs.Encoding.{split, one-in, more-in, encode-some}
-
--- ---- the steps, at a list
-
-module _ (b : ℕ) (s : List ℕ) (end start at w acc : ℕ) where
-  great-in : 15 < b → numberIn 0 (b ∷ s) end start at w acc ≡ Fault 2 start
-  unfolding numberIn
-  great-in h = simp (lt-ltb 15 b h)
-
-  fifth-in : b ≤ 15 → numberIn 0 (b ∷ s) end start at w acc ≡ ended b start at w acc
-  unfolding numberIn
-  fifth-in h = simp (le-ltb 15 b h)
-
-  last-in : (l : ℕ) → b < 128 → numberIn (suc l) (b ∷ s) end start at w acc ≡ ended b start at w acc
-  unfolding numberIn
-  last-in l h = simp (lt-ltb b 128 h)
-
-  next-in : (l : ℕ) → 128 ≤ b → numberIn (suc l) (b ∷ s) end start at w acc ≡ numberIn l s end start (at + 1) (w * 128) ((b - 128) * w + acc)
-  unfolding numberIn
-  next-in l h = simp (le-ltb b 128 h)
-
-none-in : (l end start at w acc : ℕ) → numberIn l [] end start at w acc ≡ Fault 1 end
-unfolding numberIn
-none-in l end start at w acc = refl
 
 ended-right : (b start at w acc : ℕ) → (b ≡ 0 → at ≤ start) → ended b start at w acc ≡ Value (b * w + acc) (record { at = at + 1 })
 ended-right b start at w acc h =
@@ -215,7 +193,7 @@ number-value s at x c h e =
 -- ---- a refusal is 1 at the file's end, or 2 at the number's first byte
 
 abbrev pub Refusal : ℕ → ℕ → ℕ → ℕ → Type 0
-Refusal end start k p = ((k ≡ 1) × (p ≡ end)) ⊎ ((k ≡ 2) × (p ≡ start))
+Refusal end start k p = ((k ≡ bytesEnd) × (p ≡ end)) ⊎ ((k ≡ badNumber) × (p ≡ start))
 
 ended-fault : (b start at w acc end k p : ℕ) → ended b start at w acc ≡ Fault k p → Refusal end start k p
 ended-fault b start at w acc end k p e =
@@ -240,16 +218,3 @@ fault-in (suc l) (b ∷ s) end start at w acc k p e =
 pub number-fault : (s : List ℕ) (at k p : ℕ) → numberAt s at ≡ Fault k p → Refusal (length s) at k p
 unfolding numberAt
 number-fault s at k p e = fault-in 4 (drop at s) (length s) at at 1 0 k p e
-
--- ---- the paper's worked cases, computed
-
-pub worked : (numberAt (0x7f ∷ []) 0 ≡ Value 127 (record { at = 1 }))
-    × (numberAt (0x80 ∷ 0x01 ∷ []) 0 ≡ Value 128 (record { at = 2 }))
-    × (numberAt (0x80 ∷ 0x00 ∷ []) 0 ≡ Fault 2 0)
-    × (numberAt (0xff ∷ 0xff ∷ 0xff ∷ 0xff ∷ 0x0f ∷ []) 0 ≡ Value 4294967295 (record { at = 5 }))
-    × (numberAt (0xff ∷ 0xff ∷ 0xff ∷ 0xff ∷ 0x10 ∷ []) 0 ≡ Fault 2 0)
-    × (numberAt (0x80 ∷ []) 0 ≡ Fault 1 1)
-    × (numberAt (0x00 ∷ []) 0 ≡ Value 0 (record { at = 1 }))
-    × (encode 4294967295 ≡ 0xff ∷ 0xff ∷ 0xff ∷ 0xff ∷ 0x0f ∷ [])
-unfolding numberAt encode
-worked = (refl, refl, refl, refl, refl, refl, refl, refl)
