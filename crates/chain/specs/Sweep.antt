@@ -17,7 +17,8 @@ use Rattle.chain.specs.Steps.{anchorAt, Before, Step}
 -- f tells of each two anchors whether the first comes before the second, and the gaps: 0 where it does not, k + 1 where it does with gaps k
 pub record IsSteps (g : Graph) (anchors : List Anchor) (f : ℕ → ℕ → ℕ) : Type 0 where
   pub none : (i j : ℕ) → Within (length anchors) i → Within (length anchors) j → f i j ≡ 0 → Before g (anchorAt anchors i) (anchorAt anchors j) → ⊥
-  pub some : (i j k : ℕ) → Within (length anchors) i → Within (length anchors) j → f i j ≡ suc k → Step g (anchorAt anchors i) (anchorAt anchors j) k
+  pub some : (i j k : ℕ) → f i j ≡ suc k
+      → Within (length anchors) i × Within (length anchors) j × Step g (anchorAt anchors i) (anchorAt anchors j) k
 
 -- the weights, at which the scores start
 abbrev pub weights : List Anchor → List ℕ

@@ -1,0 +1,5 @@
+-- The laws of chains and scores.
+pub mod StepLaws
+pub mod BestScores
+pub mod SweepLaws
+pub mod NamedLaws

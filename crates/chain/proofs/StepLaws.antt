@@ -1,0 +1,55 @@
+-- A step between two anchors has one gap sum, and the read place rises along it.
+-- Assumes nothing.
+use Prim.Native.Nat.{ℕ, _+_, _-_, _≤_, _<_}
+use mathlib.Core.Path.{_≡_, refl, sym, ap, _∙_, subst}
+use mathlib.Core.Logic.{_≢_, _⊎_, inl, inr}
+use mathlib.Core.List.{List}
+use native.Mathlib.Nat.{le-antisymm}
+use native.Mathlib.Omega.{arith}
+use lib.ListN.{length}
+use Rattle.rounds.specs.Rounds.{Within}
+use Rattle.graph.specs.Content.{Graph}
+use Rattle.anchors.specs.Anchors.{Anchor, y, d}
+use Rattle.cover.specs.Walks.{Goes}
+use Rattle.cover.specs.Cells.{IsClosed}
+use Rattle.cover.specs.CoverDistance.{IsCover}
+use Rattle.chain.specs.Steps.{anchorAt, Jump, ahead, round, across, Step}
+
+-- what is asked of the anchors: weights and lengths of 1 or more
+pub record Sound (anchors : List Anchor) : Type 0 where
+  pub heavy : (j : ℕ) → Within (length anchors) j → 1 ≤ anchorAt anchors j .weight
+  pub spans : (j : ℕ) → Within (length anchors) j → 1 ≤ anchorAt anchors j .len
+
+closed-one : (g : Graph) (v s t : ℕ) → IsClosed g v s → IsClosed g v t → s ≡ t
+closed-one g v s t p q = go (p .attained) (q .attained)
+  where
+    go : ((s ≡ 0) × ((l : ℕ) → Goes g v v l → ⊥)) ⊎ Goes g v v s → ((t ≡ 0) × ((l : ℕ) → Goes g v v l → ⊥)) ⊎ Goes g v v t → s ≡ t
+    go (inl a) (inl b) = omega arith
+    go (inl a) (inr b) = absurd (a .1 t b)
+    go (inr a) (inl b) = absurd (b .1 s a)
+    go (inr a) (inr b) = le-antisymm (p .least t b) (q .least s a)
+
+cover-one : (g : Graph) (u v s t : ℕ) → IsCover g u v s → IsCover g u v t → s ≡ t
+cover-one g u v s t p q = le-antisymm (p .least t (q .way)) (q .least s (p .way))
+
+jump-one : (g : Graph) (A B : Anchor) (s t : ℕ) → Jump g A B s → Jump g A B t → s ≡ t
+jump-one g A B s t (ahead e h) (ahead f k) = refl
+jump-one g A B s t (ahead e h) (round f n c) = absurd (n h)
+jump-one g A B s t (ahead e h) (across n c) = absurd (n e)
+jump-one g A B s t (round e n c) (ahead f h) = absurd (n h)
+jump-one g A B s t (round e n c) (round f m b) = closed-one g (A .v) s t c b
+jump-one g A B s t (round e n c) (across m b) = absurd (m e)
+jump-one g A B s t (across n c) (ahead f h) = absurd (n f)
+jump-one g A B s t (across n c) (round f m b) = absurd (n f)
+jump-one g A B s t (across n c) (across m b) = cover-one g (A .v) (B .v) s t c b
+
+-- two anchors have one gap sum at most
+pub step-one : (g : Graph) (A B : Anchor) (k l : ℕ) → Step g A B k → Step g A B l → k ≡ l
+step-one g A B k l p q =
+    let e : p .s ≡ q .s = jump-one g A B (p .s) (q .s) (p .jump) (q .jump) in
+    omega (arith, p .inRead, q .inRead, p .inGraph, q .inGraph, p .sum, q .sum)
+
+-- the read place rises along a step
+pub step-rises : (g : Graph) (anchors : List Anchor) (i j k : ℕ) → Sound anchors → Within (length anchors) i
+    → Step g (anchorAt anchors i) (anchorAt anchors j) k → anchorAt anchors i .c < anchorAt anchors j .c
+step-rises g anchors i j k S w p = omega (arith, S .spans i w, p .before .rises)
