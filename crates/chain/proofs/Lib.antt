@@ -3,3 +3,5 @@ pub mod StepLaws
 pub mod BestScores
 pub mod SweepLaws
 pub mod NamedLaws
+pub mod StepsThere
+pub mod Results

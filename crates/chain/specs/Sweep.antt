@@ -1,11 +1,11 @@
 -- The sweep: "scores start at the weights; a round takes anchors in rising number, in place, each score becoming the greatest of itself and all candidates.
--- The quiet round counts and ends it." And the plain pass's order.
+-- The quiet round counts and ends it." And the order of the plain pass.
 use Prim.Native.Nat.{ℕ, suc, _-_, _<_, _≤_}
 use mathlib.Core.Path.{_≡_}
 use mathlib.Core.Logic.{_⊎_}
 use mathlib.Core.List.{List, [], map}
 use native.Mathlib.Decide.{decLe}
-use lib.ListN.{length, getD}
+use lib.ListN.{length}
 use Rattle.rounds.specs.Rounds.{Within, Rounds}
 use Rattle.rounds.specs.Rule.{Links}
 use Rattle.rounds.specs.Kinds.{scoreRule}
@@ -38,10 +38,7 @@ pub data Swept (g : Graph) (anchors : List Anchor) : ℕ → List ℕ → Type 0
   rounds : {count : ℕ} {S : List ℕ} (f : ℕ → ℕ → ℕ) → 1 ≤ length anchors → IsSteps g anchors f
       → Rounds (sweepRound anchors f) (weights anchors) count S → Swept g anchors count S
 
--- "The plain pass takes pairs in read order": the anchors by c, and by number where c is the same; each number 1 to N stands there once
-pub record ReadOrder (anchors : List Anchor) (order : List ℕ) : Type 0 where
-  pub size : length order ≡ length anchors
-  pub numbers : (q : ℕ) → q < length order → Within (length anchors) (getD order q 0)
-  pub rises : (p q : ℕ) → p < q → q < length order
-      → (anchorAt anchors (getD order p 0) .c < anchorAt anchors (getD order q 0) .c)
-      ⊎ ((anchorAt anchors (getD order p 0) .c ≡ anchorAt anchors (getD order q 0) .c) × (getD order p 0 < getD order q 0))
+-- "The plain pass takes pairs in read order": anchor i stands before anchor j there, by c, and by number where c is the same
+abbrev pub ReadBefore : List Anchor → ℕ → ℕ → Type 0
+ReadBefore anchors i j =
+    (anchorAt anchors i .c < anchorAt anchors j .c) ⊎ ((anchorAt anchors i .c ≡ anchorAt anchors j .c) × (i < j))
