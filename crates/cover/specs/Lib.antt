@@ -4,3 +4,7 @@ pub mod Cells
 pub mod CoverDistance
 pub mod TableRounds
 pub mod TableEntries
+pub mod Finished
+pub mod Row
+pub mod LeastWalks
+pub mod Worked

@@ -1,1 +1,14 @@
 pub mod Starred
+pub mod Steps
+pub mod Kept
+pub mod Accepting
+pub mod Parted
+pub mod Whole
+pub mod Faulty
+pub mod Rereading
+pub mod RereadWhole
+pub mod Exactly
+pub mod Givens
+pub mod Regiven
+pub mod RoundTrips
+pub mod Prefixes

@@ -3,13 +3,13 @@
 use Prim.Native.Nat.{ℕ}
 use mathlib.Core.Path.{_≡_, refl}
 use mathlib.Core.List.{List, [], _∷_}
-use Rattle.wire.specs.Numbers.{numberAt, numberIn, encode}
-use Rattle.wire.specs.Letters.{isLetter, letterOf}
-use Rattle.wire.specs.Found.{Found, good, fault}
+use Rattle.wire.specs.Numbers.{numberAt, encode}
+use Rattle.wire.specs.Letters.{isLetter}
+use Rattle.wire.specs.Found.{good, fault}
 use Rattle.graph.specs.Content.{Graph}
 use Rattle.graph.specs.Rules.{edgeFault, isEdge, isStep, vertexFault, isOn, isOnAny, allOn, coverFault}
 use Rattle.graph.specs.Encode.{encodeGraph, encodeLabels, encodeEdges, encodePaths, encodeNumbers}
-use Rattle.graph.specs.Reading.{Parsed, graphOf, frontOf, restOf, lettersFrom, labelsFrom, edgesFrom, verticesFrom, pathsFrom}
+use Rattle.graph.specs.Reading.{graphOf, frontOf, restOf, lettersFrom, labelsFrom, edgesFrom, verticesFrom, pathsFrom}
 
 -- the graph of one vertex A and one path
 abbrev pub one : Graph
@@ -43,3 +43,31 @@ no-path = refl
 pub off-path : graphOf (1 ∷ 2 ∷ 1 ∷ 0x41 ∷ 1 ∷ 0x43 ∷ 0 ∷ 1 ∷ 1 ∷ 1 ∷ []) ≡ fault 9 10
 unfolding graphOf frontOf restOf numberAt labelsFrom lettersFrom isLetter edgesFrom pathsFrom verticesFrom vertexFault isStep isEdge coverFault allOn isOnAny isOn
 off-path = refl
+
+-- the same with a byte left over: "After the last path: 9, then 10."
+pub off-path-more : graphOf (1 ∷ 2 ∷ 1 ∷ 0x41 ∷ 1 ∷ 0x43 ∷ 0 ∷ 1 ∷ 1 ∷ 1 ∷ 0 ∷ []) ≡ fault 9 10
+unfolding graphOf frontOf restOf numberAt labelsFrom lettersFrom isLetter edgesFrom pathsFrom verticesFrom vertexFault isStep isEdge coverFault allOn isOnAny isOn
+off-path-more = refl
+
+-- "Graph G1": labels AC, G, TT, CA; edges 1-2, 1-3, 2-4, 3-4; paths 1 2 4 and 1 3 4
+abbrev pub G1 : Graph
+G1 = record {
+  labels = (0x41 ∷ 0x43 ∷ []) ∷ (0x47 ∷ []) ∷ (0x54 ∷ 0x54 ∷ []) ∷ (0x43 ∷ 0x41 ∷ []) ∷ [];
+  edges = record { from = 1; to = 2 } ∷ record { from = 1; to = 3 } ∷ record { from = 2; to = 4 } ∷ record { from = 3; to = 4 } ∷ [];
+  paths = (1 ∷ 2 ∷ 4 ∷ []) ∷ (1 ∷ 3 ∷ 4 ∷ []) ∷ [];
+}
+
+-- "Graph G1, hex: 01 04 02 41 43 01 47 02 54 54 02 43 41 04 01 02 01 03 02 04 03 04 02 03 01 02 04 03 01 03 04."
+abbrev pub G1-file : List ℕ
+G1-file =
+    1 ∷ 4 ∷ 2 ∷ 0x41 ∷ 0x43 ∷ 1 ∷ 0x47 ∷ 2 ∷ 0x54 ∷ 0x54 ∷ 2 ∷ 0x43 ∷ 0x41
+    ∷ 4 ∷ 1 ∷ 2 ∷ 1 ∷ 3 ∷ 2 ∷ 4 ∷ 3 ∷ 4
+    ∷ 2 ∷ 3 ∷ 1 ∷ 2 ∷ 4 ∷ 3 ∷ 1 ∷ 3 ∷ 4 ∷ []
+
+pub G1-written : encodeGraph G1 ≡ G1-file
+unfolding encodeGraph encodeLabels encodeEdges encodePaths encodeNumbers encode
+G1-written = refl
+
+pub G1-accepted : graphOf G1-file ≡ good (record { graph = G1; labelsAt = 2; edgesAt = 14; pathsAt = 23 })
+unfolding graphOf frontOf restOf numberAt labelsFrom lettersFrom isLetter edgesFrom edgeFault pathsFrom verticesFrom vertexFault isStep isEdge coverFault allOn isOnAny isOn
+G1-accepted = refl

@@ -4,5 +4,7 @@ pub mod Rules
 pub mod Good
 pub mod Encode
 pub mod Reading
+pub mod Placed
 pub mod Entries
+pub mod Used
 pub mod Checked

@@ -1,4 +1,4 @@
--- The laws of the wire layer. Callers cite NumberLaws, Encoding, Rest, Laying and Alphabet.
+-- The laws of the wire layer. Callers cite NumberLaws, Encoding, Rest, Laying, Alphabet, Finding and Cutting.
 pub mod Reading
 pub mod Encoding
 pub mod Putting
@@ -6,4 +6,6 @@ pub mod Rest
 pub mod NumberLaws
 pub mod Laying
 pub mod Alphabet
+pub mod Finding
+pub mod Cutting
 pub mod Starred

@@ -7,7 +7,7 @@ use mathlib.Core.List.{List, [], _∷_, _++_}
 use native.Mathlib.Omega.{arith}
 use native.Mathlib.Nat.{add-mul, mul-assoc, mul-comm, mul-left-comm}
 use lib.ListN.{length, getD, take, drop, length-append, length-drop}
-use lib.Seq.{drop-append-seam, take-append-seam, getD-drop, drop-drop}
+use lib.Seq.{drop-append-seam, take-append-seam, getD-drop, drop-drop, take-nil, length-take-le}
 use borrow.Author.Tests.{lt-ltb, le-ltb}
 use Rattle.wire.specs.Numbers.{encodeIn, encode}
 use Rattle.wire.specs.Refusals.{bytesEnd, badNumber}
@@ -218,3 +218,82 @@ fault-in (suc l) (b ∷ s) end start at w acc k p e =
 pub number-fault : (s : List ℕ) (at k p : ℕ) → numberAt s at ≡ Fault k p → Refusal (length s) at k p
 unfolding numberAt
 number-fault s at k p e = fault-in 4 (drop at s) (length s) at at 1 0 k p e
+
+-- ---- where the place after a number is, whatever the bytes; and what is read of a file that is cut short
+
+within-in : (l : ℕ) (t : List ℕ) (end start at w acc v : ℕ) (c : Cursor) → numberIn l t end start at w acc ≡ Value v c
+    → (at < c .at) × (c .at ≤ at + length t)
+within-in l [] end start at w acc v c e =
+    let f = sym (none-in l end start at w acc) ∙ e in
+    let z : _≡_ {A = ℕ} 0 1 = cc in
+    absurd (omega arith)
+within-in zero (b ∷ t) end start at w acc v c e =
+    split b 15
+    (λ g.
+    let q = ap (λ (k : Cursor). k .at) (ended-took b start at w acc v c (sym (fifth-in b t end start at w acc g) ∙ e) .1) in
+    (omega arith, omega arith))
+    (λ g.
+    let f = sym (great-in b t end start at w acc g) ∙ e in
+    let z : _≡_ {A = ℕ} 0 1 = cc in
+    absurd (omega arith))
+within-in (suc l) (b ∷ t) end start at w acc v c e =
+    split 128 b
+    (λ g.
+    let q = within-in l t end start (at + 1) (w * 128) ((b - 128) * w + acc) v c (sym (next-in b t end start at w acc l g) ∙ e) in
+    (omega arith, omega arith))
+    (λ g.
+    let q = ap (λ (k : Cursor). k .at) (ended-took b start at w acc v c (sym (last-in b t end start at w acc l g) ∙ e) .1) in
+    (omega arith, omega arith))
+
+pub number-within : (s : List ℕ) (at x : ℕ) (c : Cursor) → numberAt s at ≡ Value x c → (at < c .at) × (c .at ≤ length s)
+unfolding numberAt
+number-within s at x c e =
+    let q = within-in 4 (drop at s) (length s) at at 1 0 x c e in
+    let l = length-drop at s in
+    (omega arith, omega arith)
+
+-- of the first i bytes a number is read as before if it ends within them, and else "bytes end within the file"
+cut-in : (l : ℕ) (t : List ℕ) (end start at w acc v : ℕ) (c : Cursor) (i cut : ℕ) → numberIn l t end start at w acc ≡ Value v c
+    → ((c .at ≤ at + i) × (numberIn l (take i t) cut start at w acc ≡ Value v c)) ⊎ (numberIn l (take i t) cut start at w acc ≡ Fault 1 cut)
+cut-in l t end start at w acc v c zero cut e = inr (none-in l cut start at w acc)
+cut-in l [] end start at w acc v c (suc i) cut e = inr (none-in l cut start at w acc)
+cut-in zero (b ∷ t) end start at w acc v c (suc i) cut e =
+    split b 15
+    (λ g.
+    let f = sym (fifth-in b t end start at w acc g) ∙ e in
+    let q = ap (λ (k : Cursor). k .at) (ended-took b start at w acc v c f .1) in
+    inl (omega arith, fifth-in b (take i t) cut start at w acc g ∙ f))
+    (λ g.
+    let f = sym (great-in b t end start at w acc g) ∙ e in
+    let z : _≡_ {A = ℕ} 0 1 = cc in
+    absurd (omega arith))
+cut-in (suc l) (b ∷ t) end start at w acc v c (suc i) cut e =
+    split 128 b
+    (λ g.
+    let n = next-in b (take i t) cut start at w acc l g in
+    elim (cut-in l t end start (at + 1) (w * 128) ((b - 128) * w + acc) v c i cut (sym (next-in b t end start at w acc l g) ∙ e)) [
+      | inl h ↦ inl (omega (arith, h .0), n ∙ h .1)
+      | inr h ↦ inr (n ∙ h)
+    ])
+    (λ g.
+    let f = sym (last-in b t end start at w acc l g) ∙ e in
+    let q = ap (λ (k : Cursor). k .at) (ended-took b start at w acc v c f .1) in
+    inl (omega arith, last-in b (take i t) cut start at w acc l g ∙ f))
+
+drop-take : (n j : ℕ) (l : List ℕ) → drop n (take j l) ≡ take (j - n) (drop n l)
+drop-take zero j l = let z : j ≡ j - 0 = omega arith in ap (λ (k : ℕ). take k l) z
+drop-take (suc n) zero l = let z : 0 ≡ 0 - suc n = omega arith in ap (λ (k : ℕ). take k (drop (suc n) l)) z
+drop-take (suc n) (suc j) [] = sym (take-nil (suc j - suc n))
+drop-take (suc n) (suc j) (x ∷ l) = let z : j - n ≡ suc j - suc n = omega arith in drop-take n j l ∙ ap (λ (k : ℕ). take k (drop n l)) z
+
+pub number-cut : (s : List ℕ) (at x : ℕ) (c : Cursor) (j : ℕ) → j ≤ length s → numberAt s at ≡ Value x c
+    → ((c .at ≤ j) × (numberAt (take j s) at ≡ Value x c)) ⊎ (numberAt (take j s) at ≡ Fault 1 j)
+unfolding numberAt
+number-cut s at x c j h e =
+    let w = within-in 4 (drop at s) (length s) at at 1 0 x c e in
+    let d : drop at (take j s) ≡ take (j - at) (drop at s) = drop-take at j s in
+    let n : length (take j s) ≡ j = length-take-le j s h in
+    elim (cut-in 4 (drop at s) (length s) at at 1 0 x c (j - at) j e) [
+      | inl q ↦ inl (omega (arith, q .0), ap₂ (λ (t : List ℕ) (k : ℕ). numberIn 4 t k at at 1 0) d n ∙ q .1)
+      | inr q ↦ inr (ap₂ (λ (t : List ℕ) (k : ℕ). numberIn 4 t k at at 1 0) d n ∙ q)
+    ]

@@ -1,0 +1,3 @@
+-- The laws of the engines.
+pub mod Integers
+pub mod PairLaws

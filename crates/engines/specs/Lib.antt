@@ -1,0 +1,3 @@
+-- The definitions of the engines' work on lists: what stands in the arrays that hold the tables and the anchors.
+pub mod Pairs
+pub mod Setting
