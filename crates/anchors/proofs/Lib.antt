@@ -1,1 +1,16 @@
 pub mod AnchorStarred
+pub mod AnchorSteps
+pub mod AnchorKept
+pub mod AnchorOrder
+pub mod AnchorAccepting
+pub mod AnchorWhole
+pub mod AnchorSizes
+pub mod AnchorRereading
+pub mod AnchorGiven
+pub mod AnchorExactly
+pub mod AnchorFaults
+pub mod BothFiles
+pub mod AnchorRoundTrips
+pub mod ViewLaws
+pub mod AnchorPrefixes
+pub mod AnchorWriting

@@ -4,5 +4,6 @@ pub mod AnchorRules
 pub mod GoodAnchors
 pub mod AnchorBytes
 pub mod AnchorReading
+pub mod AnchorPlaces
 pub mod AnchorEntries
 pub mod View

@@ -28,7 +28,7 @@ pub either : (a b : Bool) → _||_ a b ≡ true → (a ≡ true) ⊎ (b ≡ true
 either true b e = inl refl
 either false b e = inr e
 
-or-right : (a b : Bool) → b ≡ true → _||_ a b ≡ true
+pub or-right : (a b : Bool) → b ≡ true → _||_ a b ≡ true
 or-right true b e = refl
 or-right false b e = e
 
@@ -69,10 +69,10 @@ letter-kept b e = passed (isLetter b) notLetter (omega arith) e
 pub letter-free : (b : ℕ) → isLetter b ≡ true → letterFault b ≡ 0
 letter-free b e = rw e
 
-vertex-is : (n v : ℕ) → isVertex n v ≡ true → Vertex n v
+pub vertex-is : (n v : ℕ) → isVertex n v ≡ true → Vertex n v
 vertex-is n v e = let t = both (leb 1 v) (leb v n) e in (leb-true 1 v (t .0), leb-true v n (t .1))
 
-is-vertex : (n v : ℕ) → Vertex n v → isVertex n v ≡ true
+pub is-vertex : (n v : ℕ) → Vertex n v → isVertex n v ≡ true
 is-vertex n v h = simp (le-leb 1 v (h .0), le-leb v n (h .1))
 
 below-is : (d e : Edge) → edgeBelow d e ≡ true → EdgeBelow d e

@@ -24,7 +24,7 @@ use Rattle.graph.proofs.Steps.{letters-step, labels-step, edges-step, v
 use Rattle.graph.proofs.Parted.{FrontParts, Parts, parts}
 
 module _ (s : List ℕ) (j : ℕ) (fits : j ≤ length s) where
-  cut-length : length (take j s) ≡ j
+  pub cut-length : length (take j s) ≡ j
   cut-length = length-take-le j s fits
 
   letter-cut : (left at : ℕ) (rest : List ℕ) (Q : Type 0) → at < j → letterFault (getD s at 0) ≡ 0
@@ -42,7 +42,7 @@ module _ (s : List ℕ) (j : ℕ) (fits : j ≤ length s) where
       let t : ltb at (length (take j s)) ≡ false = le-ltb at (length (take j s)) (omega (arith, cut-length)) in
       rw (t, cut-length) cut-end
 
-  letters-cut : (left at : ℕ) (r : List ℕ) → at ≤ j → lettersFrom left s at ≡ good r
+  pub letters-cut : (left at : ℕ) (r : List ℕ) → at ≤ j → lettersFrom left s at ≡ good r
       → CutTo j (at + left ≤ j) r (lettersFrom left (take j s) at)
   unfolding lettersFrom
   letters-cut zero at r h e = rw (letters-none s at r e) (cut-good [] (omega arith))

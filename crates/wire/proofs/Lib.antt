@@ -1,4 +1,4 @@
--- The laws of the wire layer. Callers cite NumberLaws, Encoding, Rest, Laying, Alphabet, Finding and Cutting.
+-- The laws of the wire layer. Callers cite NumberLaws, Encoding, Rest, Laying, Alphabet, Finding, Cutting and Replying.
 pub mod Reading
 pub mod Encoding
 pub mod Putting
@@ -8,4 +8,5 @@ pub mod Laying
 pub mod Alphabet
 pub mod Finding
 pub mod Cutting
+pub mod Replying
 pub mod Starred
