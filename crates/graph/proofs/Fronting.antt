@@ -1,12 +1,12 @@
 -- The check of a file, section by section: what each section that is read, or is at fault, makes of the whole.
 -- Assumes nothing.
 use Prim.Native.Nat.{ℕ, _≤_, _<_}
-use mathlib.Core.Path.{_≡_, refl, sym, ap, ap₂, _∙_, subst}
-use mathlib.Core.List.{List, [], _∷_, flatten}
+use mathlib.Core.Path.{_≡_, sym, ap, ap₂, _∙_, subst}
+use mathlib.Core.List.{List, flatten}
 use mathlib.Core.Bool.{Bool, true, false}
 use native.Mathlib.Omega.{arith}
 use lib.ListN.{length}
-use lib.Dec.{leb, eqb}
+use lib.Dec.{eqb}
 use borrow.Author.Tests.{le-leb, lt-leb, eq-eqb, ne-eqb}
 use Rattle.wire.specs.Cases.{pick}
 use Rattle.wire.specs.Found.{Found, good, fault, Part, andThen, onNumber, number, refuse}
@@ -20,15 +20,15 @@ use Rattle.wire.proofs.NumberLaws.{number-within}
 use Rattle.graph.specs.Content.{Edge}
 use Rattle.graph.specs.Rules.{noEdge, edgeCountFault, allOn, coverFault}
 use Rattle.graph.specs.Reading.{Front, Parsed, labelsFrom, edgesFrom, pathsFrom, frontOf, restOf, graphOf}
-use Rattle.graph.specs.Answers.{HasEdges, IsGood, entries, edgesIn, countAt, answered, Marked}
+use Rattle.graph.specs.Answers.{HasEdges, entries, edgesIn, countAt, answered, Marked}
 use Rattle.graph.specs.Marks.{Marks, allMarked}
-use Rattle.graph.specs.Checked.{checkedOf, faultOf, headOf, HasHead}
+use Rattle.graph.specs.Checked.{checkedOf, faultOf, HasHead}
 use Rattle.graph.specs.declared.Head.{Head}
 use Rattle.graph.specs.declared.Checked.{Checked}
 use Rattle.graph.specs.declared.Checked.the-variants as checked
-use Rattle.graph.proofs.Accepting.{LabelsRead, labels-read, EdgesRead, edges-read, PathsRead, paths-read}
+use Rattle.graph.proofs.Accepting.{labels-read, edges-read, paths-read}
 use Rattle.graph.proofs.Parted.{FrontParts, front-parts}
-use Rattle.graph.proofs.Passing.{refuse-none, refuse-some, number-read, number-stop, count-on, count-value, answered-good}
+use Rattle.graph.proofs.Passing.{refuse-none, refuse-some, count-on, count-value, answered-good}
 use Rattle.graph.proofs.Marking.{marks-all}
 
 -- a fault that was found is the answer

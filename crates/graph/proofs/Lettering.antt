@@ -2,8 +2,8 @@
 -- Assumes nothing.
 use Prim.Native.Nat.{ℕ, zero, suc, _+_, _-_, _≤_, _<_}
 use mathlib.Core.Path.{_≡_, refl, sym, ap, _∙_}
-use mathlib.Core.List.{List, [], _∷_, _++_, flatten}
-use mathlib.Core.Bool.{Bool, true, false}
+use mathlib.Core.List.{List, [], _∷_, flatten}
+use mathlib.Core.Bool.{Bool}
 use native.Mathlib.Omega.{arith}
 use native.Mathlib.Nat.{add-zero, zero-add}
 use native.Mathlib.Numerals.{sub-one}
@@ -20,7 +20,7 @@ use Rattle.wire.specs.declared.numbers.Number.the-variants.{Value, Fault}
 use Rattle.graph.specs.Rules.{letterFault, lengthFault}
 use Rattle.graph.specs.Reading.{lettersFrom, labelsFrom}
 use Rattle.graph.specs.Answers.{lettersAnswer, labelsAnswer}
-use Rattle.graph.proofs.Steps.{LetterStep, letters-step, letters-none}
+use Rattle.graph.proofs.Steps.{letters-step, letters-none}
 use Rattle.graph.proofs.Passing.{refuse-none, refuse-some, number-read, number-stop}
 
 -- ---- letters

@@ -1,9 +1,9 @@
 -- Flags of vertices: how they start, what marking a vertex adds, and what it means that all are marked.
 -- Assumes nothing.
-use Prim.Native.Nat.{ℕ, zero, suc, _+_, _-_, _≤_, _<_}
+use Prim.Native.Nat.{ℕ, zero, suc, _-_, _≤_, _<_}
 use mathlib.Core.Path.{_≡_, refl, sym, ap, ap₂, _∙_}
 use mathlib.Core.List.{List, [], _∷_, _++_}
-use mathlib.Core.Bool.{Bool, true, false, _&&_, _||_, and-true, and-false, or-true, or-false, or-assoc, or-comm}
+use mathlib.Core.Bool.{Bool, true, false, _&&_, _||_, and-true, and-false, or-true, or-false, or-assoc}
 use native.Mathlib.Omega.{arith}
 use native.Mathlib.Decide.{ℕ-discrete}
 use native.Mathlib.Numerals.{sub-one}

@@ -11,7 +11,7 @@ use native.Mathlib.Decide.{ℕ-discrete}
 use lib.Dec.{ltb, eqb}
 use borrow.Author.Tests.{ltb-true, ltb-false, eqb-true, eq-eqb, ne-eqb}
 use Rattle.wire.specs.Cases.{pick}
-use Rattle.wire.specs.Found.{Found, good, fault, Part}
+use Rattle.wire.specs.Found.{Found, good, Part}
 use Rattle.wire.specs.Numbers.{numberAt}
 use Rattle.wire.specs.declared.numbers.Cursor.{Cursor}
 use Rattle.wire.specs.declared.numbers.Number.{Number}
@@ -20,7 +20,7 @@ use Rattle.graph.specs.Content.{Edge}
 use Rattle.graph.specs.Good.{All, EdgeBelow}
 use Rattle.graph.specs.Rules.{edgeBelow, isEdge}
 use Rattle.graph.specs.Reading.{edgesFrom}
-use Rattle.graph.specs.Steps.{sameEdge, readOr, searchAt, stepAt}
+use Rattle.graph.specs.Steps.{sameEdge, readOr, searchAt}
 use Rattle.graph.specs.declared.edges.Search.{Search}
 use Rattle.graph.proofs.Kept.{both, either, edge-kept}
 use Rattle.graph.proofs.Steps.{EdgeStep, edges-step, edges-none}

@@ -1,6 +1,6 @@
 -- A path's vertex: the parts of its rule, and that a search goes on along the edges from where the one before it ended.
 -- Assumes nothing.
-use Prim.Native.Nat.{ℕ, zero, suc, _-_, _≤_, _<_}
+use Prim.Native.Nat.{ℕ, _≤_, _<_}
 use mathlib.Core.Path.{_≡_, refl, sym, ap, _∙_}
 use mathlib.Core.List.{List, [], _∷_, _++_, append-assoc}
 use mathlib.Core.Bool.{Bool, true, false, _&&_, _||_, or-assoc}
@@ -16,10 +16,10 @@ use Rattle.graph.specs.Good.{All}
 use Rattle.graph.specs.Rules.{isVertex, isEdge, isStep, vertexFault, noEdge}
 use Rattle.graph.specs.Reading.{edgesFrom}
 use Rattle.graph.specs.Answers.{IsGood, HasEdges, entries, edgesIn}
-use Rattle.graph.specs.Steps.{riseFault, searchAt, stepAt}
+use Rattle.graph.specs.Steps.{riseFault, stepAt}
 use Rattle.graph.specs.declared.edges.Search.{Search}
 use Rattle.graph.proofs.Kept.{both, passed, passed-on}
-use Rattle.graph.proofs.Searching.{Searched, searched, differs}
+use Rattle.graph.proofs.Searching.{searched, differs}
 
 -- ---- the parts of the rule
 

@@ -7,7 +7,6 @@ use mathlib.Core.Bool.{Bool, true, false}
 use native.Mathlib.Omega.{arith}
 use native.Mathlib.Numerals.{sub-one}
 use lib.ListN.{set}
-use lib.Seq.{append-snoc}
 use Rattle.wire.specs.Cases.{pick}
 use Rattle.wire.specs.Found.{Found, good, fault, Part, andThen, onNumber, number, refuse}
 use Rattle.wire.specs.Numbers.{numberAt}
@@ -16,7 +15,7 @@ use Rattle.wire.specs.declared.numbers.Cursor.{Cursor}
 use Rattle.wire.specs.declared.numbers.Number.{Number}
 use Rattle.wire.specs.declared.numbers.Number.the-variants.{Value, Fault}
 use Rattle.graph.specs.Content.{Edge}
-use Rattle.graph.specs.Rules.{pathLengthFault, vertexFault, isStep}
+use Rattle.graph.specs.Rules.{vertexFault}
 use Rattle.graph.specs.Reading.{verticesFrom, pathsFrom}
 use Rattle.graph.specs.Answers.{countAt, answered, Marked}
 use Rattle.graph.specs.Marks.{Marks}

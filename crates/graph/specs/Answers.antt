@@ -1,7 +1,6 @@
 -- What the checks of a file's parts answer, in the form of a number that is read: how many there are with the next cursor, or the fault.
 use Prim.Native.Nat.{ℕ, _+_}
 use mathlib.Core.List.{List, [], flatten}
-use mathlib.Core.Bool.{Bool, true, false}
 use lib.ListN.{length}
 use lib.Dec.{eqb}
 use Rattle.wire.specs.Cases.{pick}

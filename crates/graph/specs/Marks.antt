@@ -2,7 +2,7 @@
 use Prim.Native.Nat.{ℕ, zero, suc, _-_, _≤_}
 use mathlib.Core.Path.{_≡_}
 use mathlib.Core.List.{List}
-use mathlib.Core.Bool.{Bool, true, false, _&&_}
+use mathlib.Core.Bool.{Bool, true, _&&_}
 use lib.ListN.{length, getD, replicate}
 use lib.Dec.{eqb}
 use Rattle.wire.specs.Cases.{pick}

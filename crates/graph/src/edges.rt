@@ -67,23 +67,23 @@ pub fn find_edge(file: &[u8], start: usize, count: u32, u: u32, v: u32) -> Searc
     ensures { λ r. ⌜ r ≡ searchAt count (now (file .entry)) start u v ⌝ }
 {
     let mut at = start;
-    let mut left = count;
-    while 0 < left {
+    let mut ahead = count;
+    while 0 < ahead {
         let first = wire::numbers::read_number(file, Cursor { at: at });
         let Number::Value(from, c) = first else {
-            return ended(false, at, left);
+            return ended(false, at, ahead);
         };
         let second = wire::numbers::read_number(file, c);
         let Number::Value(to, d) = second else {
-            return ended(false, at, left);
+            return ended(false, at, ahead);
         };
         if !rules::edge_below(from, to, u, v) {
-            return ended(same_edge(from, to, u, v), at, left);
+            return ended(same_edge(from, to, u, v), at, ahead);
         }
         at = d.at;
-        left -= 1;
+        ahead -= 1;
     }
-    ended(false, at, left)
+    ended(false, at, ahead)
 }
 
 // Whether a path may step from `last` to v, looked for from where the search before it ended; before a path's first vertex `last` is 0,

@@ -18,10 +18,10 @@ use Rattle.graph.proofs.rules.edge_below.Reads as edge-below-reads
 use Rattle.wire.proofs.numbers.read_number.Reads as read-number-reads
 
 abbrev Inv-loop : tie.InvT-loop
-Inv-loop file start count u v at₀ left₀ at left = searchAt count file start u v ≡ searchAt left file at u v
+Inv-loop file start count u v at₀ ahead₀ at ahead = searchAt count file start u v ≡ searchAt ahead file at u v
 
 abbrev μ-loop : tie.MeasureT-loop
-μ-loop file start count u v at₀ left₀ at left = left
+μ-loop file start count u v at₀ ahead₀ at ahead = ahead
 
 -- the two numbers of the edge
 first-is : (k : tie.After-known-told Inv-loop μ-loop)
@@ -51,7 +51,7 @@ returns : tie.Need-returns Inv-loop μ-loop
 returns c =
     let l = c .before .before .before .before .before .loop in
     let a = c .before .before .before .before .before .before .before .args in
-    c .ended .ensures ∙ sym (l .inv ∙ search-stop (l .left) (a .file .now) (l .at) (a .u) (a .v) (omega arith) (sym (c .before .before .before .read-number .ensures) ∙ c .before .enum-told .given .1))
+    c .ended .ensures ∙ sym (l .inv ∙ search-stop (l .ahead) (a .file .now) (l .at) (a .u) (a .v) (omega arith) (sym (c .before .before .before .read-number .ensures) ∙ c .before .enum-told .given .1))
 
 read-number-requires-2 : tie.Need-read-number-requires-2 Inv-loop μ-loop
 read-number-requires-2 c κs = search needs
@@ -70,7 +70,7 @@ returns-2 c =
     let l = c .before .before .before .before .before .before .before .before .before .loop in
     let a = c .before .before .before .before .before .before .before .before .before .before .before .args in
     c .ended2 .ensures
-    ∙ sym (l .inv ∙ search-stop-second (l .left) (a .file .now) (l .at) (a .u) (a .v) (omega arith) (first-is (c .before .before .before .before)) (sym (c .before .before .before .read-number2 .ensures) ∙ c .before .enum-told2 .given .1))
+    ∙ sym (l .inv ∙ search-stop-second (l .ahead) (a .file .now) (l .at) (a .u) (a .v) (omega arith) (first-is (c .before .before .before .before)) (sym (c .before .before .before .read-number2 .ensures) ∙ c .before .enum-told2 .given .1))
 
 edge-below-requires : tie.Need-edge-below-requires Inv-loop μ-loop
 edge-below-requires c κs = search needs
@@ -86,11 +86,11 @@ returns-3 c =
     let l = c .before .before .before .before .before .before .before .before .before .before .before .before .before .loop in
     let a = c .before .before .before .before .before .before .before .before .before .before .before .before .before .before .before .args in
     c .ended3 .ensures
-    ∙ ap (λ (b : Bool). record { found = b; at = l .at; left = l .left }) (c .before .same-edge .ensures)
-    ∙ sym (l .inv ∙ search-end (l .left) (a .file .now) (l .at) (a .u) (a .v) (omega arith) (first-is (c .before .before .before .before .before .before .before .before)) (second-is (c .before .before .before .before)) (sym (c .before .before .before .edge-below .ensures) ∙ not-true _ (c .before .before .if1 .taken)))
+    ∙ ap (λ (b : Bool). record { found = b; at = l .at; left = l .ahead }) (c .before .same-edge .ensures)
+    ∙ sym (l .inv ∙ search-end (l .ahead) (a .file .now) (l .at) (a .u) (a .v) (omega arith) (first-is (c .before .before .before .before .before .before .before .before)) (second-is (c .before .before .before .before)) (sym (c .before .before .before .edge-below .ensures) ∙ not-true _ (c .before .before .if1 .taken)))
 
-sub-left : tie.Need-sub-left Inv-loop μ-loop
-sub-left c = omega arith
+sub-ahead : tie.Need-sub-ahead Inv-loop μ-loop
+sub-ahead c = omega arith
 
 loop-less : tie.Need-loop-less Inv-loop μ-loop
 loop-less c = omega arith
@@ -99,7 +99,7 @@ loop-again : tie.Need-loop-again Inv-loop μ-loop
 loop-again c =
     let l = c .before .before .before .before .before .before .before .before .before .before .before .loop in
     let a = c .before .before .before .before .before .before .before .before .before .before .before .before .before .args in
-    l .inv ∙ search-next (l .left) (a .file .now) (l .at) (a .u) (a .v) (omega arith) (first-is (c .before .before .before .before .before .before)) (second-is (c .before .before)) (sym (c .before .edge-below .ensures) ∙ not-false _ (c .if1 .left))
+    l .inv ∙ search-next (l .ahead) (a .file .now) (l .at) (a .u) (a .v) (omega arith) (first-is (c .before .before .before .before .before .before)) (second-is (c .before .before)) (sym (c .before .edge-below .ensures) ∙ not-false _ (c .if1 .left))
 
 ended-requires-4 : tie.Need-ended-requires-4 Inv-loop μ-loop
 ended-requires-4 c κs = search needs
@@ -108,7 +108,7 @@ returns-4 : tie.Need-returns-4 Inv-loop μ-loop
 returns-4 c =
     let l = c .before .before .loop in
     let a = c .before .before .before .before .args in
-    c .ended4 .ensures ∙ sym (l .inv ∙ search-done (l .left) (a .file .now) (l .at) (a .u) (a .v) (omega arith))
+    c .ended4 .ensures ∙ sym (l .inv ∙ search-done (l .ahead) (a .file .now) (l .at) (a .u) (a .v) (omega arith))
 
 pub find-edge-spec : {M : Type 1} → statement M
 find-edge-spec =
@@ -131,7 +131,7 @@ find-edge-spec =
     same-edge-requires
     ended-requires-3
     returns-3
-    sub-left
+    sub-ahead
     loop-less
     loop-again
     ended-requires-4

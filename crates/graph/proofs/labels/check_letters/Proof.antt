@@ -22,7 +22,10 @@ loop-holds : tie.Need-loop-holds Inv-loop μ-loop
 loop-holds c = (refl, refl)
 
 returns : tie.Need-returns Inv-loop μ-loop
-returns c = let k = c .before .before in let a = k .before .before .args in sym (k .loop .inv .0 ∙ ap (lettersAnswer (a .len) (a .cursor .at + a .len)) (letters-end (k .loop .left) (a .file .now) (k .loop .at) (omega arith) (omega arith)))
+returns c =
+    let k = c .before .before in
+    let a = k .before .before .args in
+    sym (k .loop .inv .0 ∙ ap (lettersAnswer (a .len) (a .cursor .at + a .len)) (letters-end (k .loop .left) (a .file .now) (k .loop .at) (omega arith) (omega arith)))
 
 shared-slice-read-letter-fault : tie.Need-shared-slice-read-letter-fault Inv-loop μ-loop
 shared-slice-read-letter-fault c = omega arith
@@ -31,7 +34,12 @@ letter-fault-requires : tie.Need-letter-fault-requires Inv-loop μ-loop
 letter-fault-requires c κs = search needs
 
 returns-2 : tie.Need-returns-2 Inv-loop μ-loop
-returns-2 c = let k = c .before .before .before .before .before in let a = k .before .before .args in let r = c .before .letter-fault .ensures in ap (λ (j : ℕ). Fault j (k .loop .at)) r ∙ sym (k .loop .inv .0 ∙ ap (lettersAnswer (a .len) (a .cursor .at + a .len)) (letters-bad (k .loop .left) (a .file .now) (k .loop .at) (omega arith) (omega arith) (λ z. c .if2 .taken (r ∙ z))))
+returns-2 c =
+    let k = c .before .before .before .before .before in
+    let a = k .before .before .args in
+    let r = c .before .letter-fault .ensures in
+    ap (λ (j : ℕ). Fault j (k .loop .at)) r
+    ∙ sym (k .loop .inv .0 ∙ ap (lettersAnswer (a .len) (a .cursor .at + a .len)) (letters-bad (k .loop .left) (a .file .now) (k .loop .at) (omega arith) (omega arith) (λ z. c .if2 .taken (r ∙ z))))
 
 add-at : tie.Need-add-at Inv-loop μ-loop
 add-at c = omega arith
@@ -43,10 +51,19 @@ loop-less : tie.Need-loop-less Inv-loop μ-loop
 loop-less c = omega arith
 
 loop-again : tie.Need-loop-again Inv-loop μ-loop
-loop-again c = let k = c .before .before .before .before .before in let a = k .before .before .args in let r = c .before .letter-fault .ensures in (k .loop .inv .0 ∙ letters-next (k .loop .left) (a .file .now) (k .loop .at) (omega arith) (a .len) (a .cursor .at + a .len) (omega arith) (sym r ∙ c .if2 .left), omega arith)
+loop-again c =
+    let k = c .before .before .before .before .before in
+    let a = k .before .before .args in
+    let r = c .before .letter-fault .ensures in
+    (k .loop .inv .0 ∙ letters-next (k .loop .left) (a .file .now) (k .loop .at) (omega arith) (a .len) (a .cursor .at + a .len) (omega arith) (sym r ∙ c .if2 .left), omega arith)
 
 returns-3 : tie.Need-returns-3 Inv-loop μ-loop
-returns-3 c = let k = c .before in let a = k .before .before .args in let e : k .loop .at ≡ a .cursor .at + a .len = omega arith in ap (λ (j : ℕ). Value (a .len) (record { at = j })) e ∙ sym (k .loop .inv .0 ∙ ap (lettersAnswer (a .len) (a .cursor .at + a .len)) (letters-done (k .loop .left) (a .file .now) (k .loop .at) (omega arith)))
+returns-3 c =
+    let k = c .before in
+    let a = k .before .before .args in
+    let e : k .loop .at ≡ a .cursor .at + a .len = omega arith in
+    ap (λ (j : ℕ). Value (a .len) (record { at = j })) e
+    ∙ sym (k .loop .inv .0 ∙ ap (lettersAnswer (a .len) (a .cursor .at + a .len)) (letters-done (k .loop .left) (a .file .now) (k .loop .at) (omega arith)))
 
 pub check-letters-spec : {M : Type 1} → statement M
 check-letters-spec =

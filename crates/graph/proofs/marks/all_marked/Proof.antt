@@ -1,7 +1,6 @@
 use Prim.Native.Nat.{_≤_}
 use mathlib.Core.Path.{_≡_, refl, sym, _∙_}
 use native.Mathlib.Omega.{arith}
-use borrow.Author.Needs.{needs}
 use lib.ListN.{length}
 use Rattle.graph.specs.Marks.{allMarked}
 use Rattle.graph.proofs.Marking.{marked-none, marked-not, marked-more}
@@ -26,7 +25,9 @@ shared-slice-read-if1 : tie.Need-shared-slice-read-if1 Inv-loop μ-loop
 shared-slice-read-if1 c = omega arith
 
 returns : tie.Need-returns Inv-loop μ-loop
-returns c = let k = c .before .before .before in sym (k .loop .inv .0 ∙ marked-not (k .before .args .flags .now) (k .loop .left) (omega arith) (λ e. omega arith))
+returns c =
+    let k = c .before .before .before in
+    sym (k .loop .inv .0 ∙ marked-not (k .before .args .flags .now) (k .loop .left) (omega arith) (λ e. omega arith))
 
 sub-left : tie.Need-sub-left Inv-loop μ-loop
 sub-left c = omega arith
@@ -35,7 +36,9 @@ loop-less : tie.Need-loop-less Inv-loop μ-loop
 loop-less c = omega arith
 
 loop-again : tie.Need-loop-again Inv-loop μ-loop
-loop-again c = let k = c .before .before .before in (k .loop .inv .0 ∙ marked-more (k .before .args .flags .now) (k .loop .left) (omega arith) (omega arith), omega arith)
+loop-again c =
+    let k = c .before .before .before in
+    (k .loop .inv .0 ∙ marked-more (k .before .args .flags .now) (k .loop .left) (omega arith) (omega arith), omega arith)
 
 returns-2 : tie.Need-returns-2 Inv-loop μ-loop
 returns-2 c = let k = c .before in sym (k .loop .inv .0 ∙ marked-none (k .before .args .flags .now) (k .loop .left) (omega arith))

@@ -1,11 +1,11 @@
-use Prim.Native.Nat.{ℕ, _+_, _-_, _≤_}
+use Prim.Native.Nat.{ℕ}
 use mathlib.Core.Path.{_≡_, refl, sym, ap, _∙_}
 use native.Mathlib.Omega.{arith}
 use borrow.Author.Needs.{needs}
 use lib.ListN.{length, length-set}
 use borrow.Author.Tests.{not-true, not-false}
 use Rattle.graph.specs.Reading.{pathsFrom}
-use Rattle.wire.specs.declared.numbers.Number.the-variants.{Value, Fault}
+use Rattle.wire.specs.declared.numbers.Number.the-variants.{Fault}
 use Rattle.graph.specs.Answers.{edgesIn}
 use Rattle.graph.proofs.Stepping.{ahead-start, rise-kept}
 use Rattle.graph.proofs.Walking.{Walked, Walking, walked-none, walked-done, walked-stop, walking-start, walking-end, walking-stop, walking-bad, walking-off, walking-next, answer-fault, answer-good}

@@ -15,10 +15,16 @@ returns : tie.Need-returns
 returns c = simp (sym (c .before .is-vertex .ensures) ∙ not-true _ (c .if1 .taken))
 
 returns-2 : tie.Need-returns-2
-returns-2 c = let k = c .before .before in let a = k .before .args in simp (sym (k .is-vertex .ensures) ∙ not-false _ (c .before .if1 .left), lt-ltb (a .last) (a .v) (omega arith))
+returns-2 c =
+    let k = c .before .before in
+    let a = k .before .args in
+    simp (sym (k .is-vertex .ensures) ∙ not-false _ (c .before .if1 .left), lt-ltb (a .last) (a .v) (omega arith))
 
 returns-3 : tie.Need-returns-3
-returns-3 c = let k = c .before .before in let a = k .before .args in simp (sym (k .is-vertex .ensures) ∙ not-false _ (c .before .if1 .left), le-ltb (a .last) (a .v) (omega arith))
+returns-3 c =
+    let k = c .before .before in
+    let a = k .before .args in
+    simp (sym (k .is-vertex .ensures) ∙ not-false _ (c .before .if1 .left), le-ltb (a .last) (a .v) (omega arith))
 
 pub rise-fault-spec : {M : Type 1} → statement M
 rise-fault-spec = tie.close (tie.spec is-vertex-requires returns returns-2 returns-3)
