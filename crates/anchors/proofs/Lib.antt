@@ -14,3 +14,9 @@ pub mod AnchorRoundTrips
 pub mod ViewLaws
 pub mod AnchorPrefixes
 pub mod AnchorWriting
+pub mod LabelLaws
+pub mod OneLaws
+pub mod EachLaws
+pub mod OverLaws
+pub mod BothLaws
+pub mod Viewing

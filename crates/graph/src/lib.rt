@@ -1,8 +1,8 @@
 // The graph file: its definitions are in specs/, and the check here decides without writing.
 pub mod rules; // rules.rt: the rules, each as the refusal number that it gives
 pub mod marks; // marks.rt: which vertices are on a path
-mod counts; // counts.rt: a count with its range
-mod labels; // labels.rt: the labels and their letters
+pub mod counts; // counts.rt: a count with its range
+pub mod labels; // labels.rt: the labels and their letters
 mod edges; // edges.rt: the edges, checked and searched
 mod paths; // paths.rt: the paths
 
