@@ -78,8 +78,7 @@ module _ (s t : List ℕ) (h : Accepts s) where
   pub both-accepted : {a : AnchorSections} → checkedAnchorsOf (anchorsOf (contentOf s) t) ≡ checked.Accepted a
       → (q : ParsedAnchors) × (bothReply s t ≡ accepted (record { graph = parsedOf s; anchors = q })) × (a ≡ anchorSectionsOf q)
   both-accepted e =
-      let u = anchors-good (anchorsOf (contentOf s) t) e in
-      (
+      let u = anchors-good (anchorsOf (contentOf s) t) e in (
         u .0,
         over
             ∙ ap (λ (x : Found ParsedAnchors). onAccepted (inFile anchorFile x) (λ q. accepted (record { graph = parsedOf s; anchors = q }))) (u .1),

@@ -121,16 +121,14 @@ pub after-is : (g : Graph) (read : List ℕ) (left : ℕ) (last : Anchor) (s : L
     → (a : Numbers) × (numbersAfter i s at ≡ good a) × (a .anchor ≡ getD (r .content) i noAnchor)
 after-is g read zero last s at r e i h = absurd (omega arith)
 after-is g read (suc left) last s at r e zero h =
-    let t = anchors-step g read left last s at r e in
-    (
+    let t = anchors-step g read left last s at r e in (
       t .first,
       after-none 0 s at (omega arith) ∙ t .firstIs,
       ap (λ (l : List Anchor). getD l 0 noAnchor) (sym (t .content)),
     )
 after-is g read (suc left) last s at r e (suc i) h =
     let t = anchors-step g read left last s at r e in
-    let u = after-is g read left (t .first .anchor) s (t .first .next) (t .rest) (t .restIs) i (omega arith) in
-    (
+    let u = after-is g read left (t .first .anchor) s (t .first .next) (t .rest) (t .restIs) i (omega arith) in (
       u .0,
       after-more (suc i) s at (omega arith) (t .firstIs)
           ∙ ap (λ (k : ℕ). numbersAfter k s (t .first .next)) (sub-one (suc i))

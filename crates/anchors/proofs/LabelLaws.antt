@@ -223,6 +223,7 @@ label-told t e f = let r = t .reads in (ap (λ (k : Cursor). k .at) (cursors (sy
   where
     values : {x y : ℕ} {c d : Cursor} → Value x c ≡ Value y d → x ≡ y
     values e = cc
+
     cursors : {x y : ℕ} {c d : Cursor} → Value x c ≡ Value y d → c ≡ d
     cursors e = cc
 
@@ -238,8 +239,7 @@ pub placing-done : {s : List ℕ} {at₀ : ℕ} {labels : List (List ℕ)} {star
     → Placing s at₀ labels starts₀ lengths₀ starts lengths i at → i ≡ length labels
     → (starts ≡ front (startsOf at₀ labels) starts₀) × (lengths ≡ front (map length labels) lengths₀)
 placing-done {at₀} {labels} {starts₀} {lengths₀} p e =
-    let d : p .done ≡ labels = none-left (p .done) (p .todo) labels (p .whole) (p .count ∙ e) in
-    (
+    let d : p .done ≡ labels = none-left (p .done) (p .todo) labels (p .whole) (p .count ∙ e) in (
       p .starts-are
           ∙ ap₂ (λ (x : List (List ℕ)) (j : ℕ). startsOf at₀ x ++ drop j starts₀) d (e ∙ sym (length-starts at₀ labels)),
       p .lengths-are ∙ ap₂ (λ (x : List (List ℕ)) (j : ℕ). map length x ++ drop j lengths₀) d (e ∙ sym (length-map labels)),

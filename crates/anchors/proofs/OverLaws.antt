@@ -116,6 +116,7 @@ count-value low high s at e = ranged-value low high at (numberAt s at) e
     pick-value : (b : Bool) (n : Number) (k p : ℕ) {x : ℕ} {c : Cursor} → pick b n (Fault k p) ≡ Value x c → n ≡ Value x c
     pick-value true n k p e = e
     pick-value false n k p e = let z : _≡_ {A = ℕ} 0 1 = cc in absurd (omega arith)
+
     ranged-value : (low high at : ℕ) (n : Number) {x : ℕ} {c : Cursor} → ranged low high at n ≡ Value x c → n ≡ Value x c
     ranged-value low high at (Value y d) e = pick-value (eqb (rangeFault low high y) 0) (Value y d) (rangeFault low high y) at e
     ranged-value low high at (Fault k p) e = e

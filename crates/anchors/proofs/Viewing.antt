@@ -71,11 +71,11 @@ seen s t p j b e h k =
     let ps = parts s (p .graph) (w .graphIs) in
     let hs = anchor-parts (p .graph .graph) t (p .anchors) (w .anchorsIs) in
     let u = after-is (p .graph .graph) (p .anchors .set .read) (anchorCount (p .anchors .set)) noAnchor t (p .anchors .anchorsAt) _ (hs .anchorsIs) (j - 1)
-        (omega arith) in
+    (omega arith) in
     let i = view-anchor s t p e j h k in
     let l = label-stands s t p b w (a .v) (i .vertex .0) (i .vertex .1) in
     let m = lies-within s (labelStart p (a .v)) (labelOf (p .graph .graph) (a .v)) (record { after = l .0; bytes = l .1 })
-        (omega (arith, i .someX, i .someLength, i .inLabel)) in
+    (omega (arith, i .someX, i .someLength, i .inLabel)) in
     let r = hs .readWithin in
     record {
       same = refl;
@@ -98,7 +98,7 @@ module _ {s t : List ℕ} {p : Both} {j : ℕ} (h : Seen s t p j (anchorNumbered
   seen-five at {f} {w} {n} e d =
       let q = five-good (numbersAfter (j - 1) t at) d in
       let r = good-same (h .numbers) (record { anchor = anchorOf f; weightAt = w; next = n })
-          (sym (h .reads) ∙ ap (λ (k : ℕ). numbersAfter (j - 1) t k) (sym e) ∙ q) in
+      (sym (h .reads) ∙ ap (λ (k : ℕ). numbersAfter (j - 1) t k) (sym e) ∙ q) in
       subst (Seen s t p j) (sym (h .numbersAre) ∙ ap (λ (x : Numbers). x .anchor) r) h
 
   pub seen-there : (at : ℕ) {k place : ℕ} → at ≡ p .anchors .anchorsAt → readFiveOf (numbersAfter (j - 1) t at) ≡ Fault k place → ⊥
@@ -212,16 +212,14 @@ Handed l x w = (w .start + w .len ≤ length l) × (take (w .start + w .len - w 
 module _ (s t : List ℕ) (v : View) (h : Within s t v) where
   handed-graph : v .file ≡ graphFile → Handed s (bytesOf v s t) (viewedOf v)
   handed-graph e =
-      let p : pick (eqb (v .file) graphFile) s t ≡ s = ap (λ (b : Bool). pick b s t) (eq-eqb (v .file) graphFile e) in
-      (
+      let p : pick (eqb (v .file) graphFile) s t ≡ s = ap (λ (b : Bool). pick b s t) (eq-eqb (v .file) graphFile e) in (
         subst (λ (l : List ℕ). v .start + v .len ≤ length l) p (h .inside),
         cut s (v .start) (v .len) ∙ ap (λ (l : List ℕ). take (v .len) (drop (v .start) l)) (sym p),
       )
 
   handed-file : (v .file ≡ graphFile → ⊥) → Handed t (bytesOf v s t) (viewedOf v)
   handed-file n =
-      let p : pick (eqb (v .file) graphFile) s t ≡ t = ap (λ (b : Bool). pick b s t) (ne-eqb (v .file) graphFile n) in
-      (
+      let p : pick (eqb (v .file) graphFile) s t ≡ t = ap (λ (b : Bool). pick b s t) (ne-eqb (v .file) graphFile n) in (
         subst (λ (l : List ℕ). v .start + v .len ≤ length l) p (h .inside),
         cut t (v .start) (v .len) ∙ ap (λ (l : List ℕ). take (v .len) (drop (v .start) l)) (sym p),
       )

@@ -51,7 +51,13 @@ pub fn check_each(
     requires { ⌜ read + r ≤ length (now file) ⌝ }
     ensures { λ k. ⌜ k ≡ answered count (anchorsFrom (contentOf (now (graph .entry))) (take r (drop read (now (file .entry)))) count noAnchor (now (file .entry)) at) ⌝ }
 {
-    let mut last = Five { v: 0, x: 0, c: 0, len: 0, weight: 0 };
+    let mut last = Five {
+        v: 0,
+        x: 0,
+        c: 0,
+        len: 0,
+        weight: 0,
+    };
     let mut place = at;
     let mut left = count;
     while 0 < left {

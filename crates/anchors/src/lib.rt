@@ -3,6 +3,7 @@ pub mod labels; // labels.rt: where the labels lie in the graph file
 pub mod one; // one.rt: one anchor
 pub mod each; // each.rt: the anchors of a file, one by one
 pub mod view; // view.rt: the letters of one anchor
+
 use crate::each::check_each;
 use crate::labels::label_places;
 use crate::labels::label_table;
@@ -59,7 +60,13 @@ fn anchors_refused(got: Number) -> CheckedAnchors
 }
 
 // The check of one anchor file over a graph file that is accepted and has n vertices, whose labels the tables find (see labels::label_places).
-pub fn check_over(graph: &[u8], file: &[u8], n: u32, starts: &[u32], lengths: &[u32]) -> CheckedAnchors
+pub fn check_over(
+    graph: &[u8],
+    file: &[u8],
+    n: u32,
+    starts: &[u32],
+    lengths: &[u32],
+) -> CheckedAnchors
     requires { ⌜ LabelTables (now graph) n (now starts) (now lengths) ⌝ }
     ensures { λ r. ⌜ r ≡ checkedAnchorsOf (anchorsOf (contentOf (now (graph .entry))) (now (file .entry))) ⌝ }
 {
@@ -92,7 +99,12 @@ pub fn check_over(graph: &[u8], file: &[u8], n: u32, starts: &[u32], lengths: &[
     if e.at != file.len() {
         return CheckedAnchors::Fault(LEFT_OVER, e.at);
     }
-    CheckedAnchors::Accepted(AnchorSections { r: r, read: b.at, n: count, anchors: d.at })
+    CheckedAnchors::Accepted(AnchorSections {
+        r: r,
+        read: b.at,
+        n: count,
+        anchors: d.at,
+    })
 }
 
 // A fault of the graph file as the answer on both.

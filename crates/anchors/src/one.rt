@@ -1,15 +1,15 @@
 // One anchor: its five numbers, its own faults and its place in the order.
+use graph::rules::is_vertex;
+use graph::rules::range_fault;
 use wire::letters::letters_agree;
 use wire::numbers::Cursor;
 use wire::numbers::Number;
 use wire::numbers::read_number;
 use wire::refusals::LETTERS_DIFFER;
 use wire::refusals::NO_VERTEX;
-use wire::refusals::OUTSIDE;
 use wire::refusals::OUT_OF_RANGE;
+use wire::refusals::OUTSIDE;
 use wire::sizes::MOST_WEIGHT;
-use graph::rules::is_vertex;
-use graph::rules::range_fault;
 ghost use mathlib.Core.Path.{_≡_};
 ghost use Prim.Native.Nat.{_+_, _-_, _≤_};
 ghost use lib.ListN.{length, take, drop};
@@ -66,7 +66,17 @@ pub fn read_five(file: &[u8], at: usize) -> ReadFive
     let Number::Value(weight, u) = n5 else {
         return five_refused(n5);
     };
-    ReadFive::Got(Five { v: v, x: x, c: c, len: len, weight: weight }, t.at, u.at)
+    ReadFive::Got(
+        Five {
+            v: v,
+            x: x,
+            c: c,
+            len: len,
+            weight: weight,
+        },
+        t.at,
+        u.at,
+    )
 }
 
 // Reads the anchor after `skipped` others, the first of which starts at a place.

@@ -22,7 +22,11 @@ pub struct Viewed {
 fn empty_view() -> Viewed
     ensures { λ r. ⌜ r ≡ viewedOf emptyView ⌝ }
 {
-    Viewed { file: GRAPH_FILE, start: 0, len: 0 }
+    Viewed {
+        file: GRAPH_FILE,
+        start: 0,
+        len: 0,
+    }
 }
 
 // Where the letters of an anchor stand in the file named, 1 or 2; the empty part at the front of the graph file where a file is refused, the anchor's
@@ -47,11 +51,19 @@ pub fn view(graph: &[u8], anchors: &[u8], number: u32, file: u32) -> Viewed
     if file == GRAPH_FILE {
         let label = label_start(graph, g.labels, g.n, five.v);
         let start = label + (five.x - 1);
-        return Viewed { file: GRAPH_FILE, start: start, len: five.len };
+        return Viewed {
+            file: GRAPH_FILE,
+            start: start,
+            len: five.len,
+        };
     }
     if file == ANCHOR_FILE {
         let start = a.read as u32 + (five.c - 1);
-        return Viewed { file: ANCHOR_FILE, start: start, len: five.len };
+        return Viewed {
+            file: ANCHOR_FILE,
+            start: start,
+            len: five.len,
+        };
     }
     empty_view()
 }
@@ -63,5 +75,9 @@ pub fn anchor_letters<'a>(graph: &'a [u8], anchors: &'a [u8], number: u32, file:
     let w = view(graph, anchors, number, file);
     let start = w.start as usize;
     let end = start + w.len as usize;
-    if w.file == GRAPH_FILE { &graph[start..end] } else { &anchors[start..end] }
+    if w.file == GRAPH_FILE {
+        &graph[start..end]
+    } else {
+        &anchors[start..end]
+    }
 }

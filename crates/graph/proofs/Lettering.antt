@@ -155,9 +155,16 @@ module _ (left sum : ℕ) (s : List ℕ) (at : ℕ) (h : 0 < left) where
 
 -- ---- what was answered was found
 
-letters-zero : (y : Found (Part (List (List ℕ)))) {x : ℕ} {c : Cursor} → labelsAnswer 0 y ≡ Value x c
-    → (p : Part (List (List ℕ))) × (y ≡ good p) × (x ≡ length (flatten (p .content))) × (p .next ≡ c .at)
-letters-zero (good p) {x} {c} e = (p, refl, sym (ap value-of e) ∙ zero-add (length (flatten (p .content))), ap next-of e)
+-- n labels were read: their letters together, and the place after them
+pub record LabelsFound (n : ℕ) (s : List ℕ) (at sum next : ℕ) : Type 0 where
+  pub labels : Part (List (List ℕ))
+  pub found : labelsFrom n 0 s at ≡ good labels
+  pub letters : sum ≡ length (flatten (labels .content))
+  pub ends : labels .next ≡ next
+
+pub labels-good : (n : ℕ) (s : List ℕ) (at : ℕ) {x : ℕ} {c : Cursor} → labelsAnswer 0 (labelsFrom n 0 s at) ≡ Value x c
+    → LabelsFound n s at x (c .at)
+labels-good n s at {x} {c} e = go (labelsFrom n 0 s at) refl e
   where
     value-of : Number → ℕ
     value-of (Value v c) = v
@@ -166,11 +173,15 @@ letters-zero (good p) {x} {c} e = (p, refl, sym (ap value-of e) ∙ zero-add (le
     next-of : Number → ℕ
     next-of (Value v c) = c .at
     next-of (Fault k p) = 0
-letters-zero (fault k p) e = let z : _≡_ {A = ℕ} 0 1 = cc in absurd (omega arith)
 
-pub labels-good : (n : ℕ) (s : List ℕ) (at : ℕ) {x : ℕ} {c : Cursor} → labelsAnswer 0 (labelsFrom n 0 s at) ≡ Value x c
-    → (p : Part (List (List ℕ))) × (labelsFrom n 0 s at ≡ good p) × (x ≡ length (flatten (p .content))) × (p .next ≡ c .at)
-labels-good n s at e = letters-zero (labelsFrom n 0 s at) e
+    go : (y : Found (Part (List (List ℕ)))) → labelsFrom n 0 s at ≡ y → labelsAnswer 0 y ≡ Value x c → LabelsFound n s at x (c .at)
+    go (good p) f g = record {
+      labels = p;
+      found = f;
+      letters = sym (ap value-of g) ∙ zero-add (length (flatten (p .content)));
+      ends = ap next-of g;
+    }
+    go (fault k p) f g = let z : _≡_ {A = ℕ} 0 1 = cc in absurd (omega arith)
 
 pub labels-fault : (sum : ℕ) (y : Found (Part (List (List ℕ)))) {k p : ℕ} → labelsAnswer sum y ≡ Fault k p → y ≡ fault k p
 labels-fault sum (good q) e = let z : _≡_ {A = ℕ} 0 1 = cc in absurd (omega arith)

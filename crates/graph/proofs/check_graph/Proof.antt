@@ -1,10 +1,12 @@
-use mathlib.Core.Path.{sym, ap, _∙_}
+use mathlib.Core.Path.{_≡_, sym, ap, _∙_}
 use native.Mathlib.Omega.{arith}
-use Rattle.wire.specs.Sizes.{mostEdges}
+use Rattle.wire.specs.Numbers.{numberAt}
+use Rattle.wire.specs.Sizes.{mostVertices, mostEdges}
+use Rattle.wire.specs.declared.numbers.Number.the-variants.{Value}
 use Rattle.graph.specs.Answers.{countAt}
 use Rattle.graph.specs.Checked.{checkedOf}
 use Rattle.graph.proofs.Passing.{answered-good, answered-fault}
-use Rattle.graph.proofs.Lettering.{labels-good, labels-fault}
+use Rattle.graph.proofs.Lettering.{LabelsFound, labels-good, labels-fault}
 use Rattle.graph.proofs.Fronting.{told, front-fault, front-long, front-stop, front-kind, front-count, front-labels, front-edge-count, front-edges, front-head}
 use borrow.Author.Needs.{needs}
 use Rattle.graph.proofs.check_graph.Statement.{statement}
@@ -17,6 +19,32 @@ use Rattle.graph.proofs.edges.check_edges.Reads as check-edges-reads
 use Rattle.graph.proofs.labels.check_labels.Reads as check-labels-reads
 use Rattle.graph.proofs.refused.Reads as refused-reads
 use Rattle.wire.proofs.numbers.read_number.Reads as read-number-reads
+
+-- the kind, n, the labels and m, as they were read
+kind-is : (k : tie.After-known-told)
+    → numberAt (k .before .before .before .before .before .before .args .file .now) 0 ≡ Value (k .before .first .given .0 .0)
+    (k .before .first .given .0 .1 .0)
+kind-is k = sym (k .before .before .before .read-number .ensures) ∙ k .before .first .given .1
+
+count-is : (k : tie.After-known-told2)
+    → countAt 1 mostVertices (k .before .before .before .before .before .before .before .before .before .before .before .args .file .now)
+    (k .before .before .before .before .before .before .first .given .0 .1 .0 .at)
+    ≡ Value (k .before .second .given .0 .0) (k .before .second .given .0 .1 .0)
+count-is k = sym (k .before .before .before .read-count .ensures) ∙ k .before .second .given .1
+
+labels-are : (k : tie.After-known-told3)
+    → LabelsFound (k .before .before .before .before .before .second .given .0 .0)
+    (k .before .before .before .before .before .before .before .before .before .before .before .before .before .before .before .args .file .now)
+    (k .before .before .before .before .before .second .given .0 .1 .0 .at)
+    (k .before .labels .given .0 .0) (k .before .labels .given .0 .1 .0 .at)
+labels-are k = labels-good _ _ _ (sym (k .before .before .before .check-labels .ensures) ∙ k .before .labels .given .1)
+
+edge-count-is : (k : tie.After-known-told4)
+    → countAt 0 mostEdges (k .before .before .before .before .before .before .before .before .before .before .before .before .before .before .before .before .before .before .before .args .file .now) (labels-are (k .before .before .before .before) .labels .next)
+    ≡ Value (k .before .third .given .0 .0) (k .before .third .given .0 .1 .0)
+edge-count-is k =
+    ap (countAt 0 mostEdges _) (labels-are (k .before .before .before .before) .ends) ∙ sym (k .before .before .before .read-count2 .ensures)
+    ∙ k .before .third .given .1
 
 returns : tie.Need-returns
 returns c =
@@ -44,8 +72,7 @@ returns-2 c =
 returns-3 : tie.Need-returns-3
 returns-3 c =
     let s = c .before .before .before .before .before .before .before .args .file .now in
-    let e1 = sym (c .before .before .before .before .read-number .ensures) ∙ c .before .before .first .given .1 in
-    sym (ap checkedOf (front-fault s (front-kind s (omega arith) e1 (λ z. omega arith))))
+    sym (ap checkedOf (front-fault s (front-kind s (omega arith) (kind-is (c .before)) (λ z. omega arith))))
 
 read-count-requires : tie.Need-read-count-requires
 read-count-requires c κs = search needs
@@ -62,9 +89,10 @@ refused-requires-2 c κs = search needs
 returns-4 : tie.Need-returns-4
 returns-4 c =
     let s = c .before .before .before .before .before .before .before .before .before .before .before .args .file .now in
-    let e1 = sym (c .before .before .before .before .before .before .before .before .read-number .ensures) ∙ c .before .before .before .before .before .before .first .given .1 in
     let f = c .before .enum-told2 .given .1 in
-    told s (c .refused2 .ensures) f (front-fault s (front-count s (omega arith) e1 (omega arith) (sym (c .before .before .before .read-count .ensures) ∙ f)))
+    told s (c .refused2 .ensures) f
+    (front-fault s (front-count s (omega arith) (kind-is (c .before .before .before .before .before)) (omega arith)
+    (sym (c .before .before .before .read-count .ensures) ∙ f)))
 
 check-labels-requires : tie.Need-check-labels-requires
 check-labels-requires c κs = search needs
@@ -81,11 +109,11 @@ refused-requires-3 c κs = search needs
 returns-5 : tie.Need-returns-5
 returns-5 c =
     let s = c .before .before .before .before .before .before .before .before .before .before .before .before .before .before .before .args .file .now in
-    let e1 = sym (c .before .before .before .before .before .before .before .before .before .before .before .before .read-number .ensures) ∙ c .before .before .before .before .before .before .before .before .before .before .first .given .1 in
-    let e2 = sym (c .before .before .before .before .before .before .before .read-count .ensures) ∙ c .before .before .before .before .before .second .given .1 in
     let f = c .before .enum-told3 .given .1 in
     told s (c .refused3 .ensures) f
-    (front-fault s (front-labels s (omega arith) e1 (omega arith) e2 (labels-fault 0 _ (sym (c .before .before .before .check-labels .ensures) ∙ f))))
+    (front-fault s
+    (front-labels s (omega arith) (kind-is (c .before .before .before .before .before .before .before .before .before)) (omega arith)
+    (count-is (c .before .before .before .before)) (labels-fault 0 _ (sym (c .before .before .before .check-labels .ensures) ∙ f))))
 
 read-count-requires-2 : tie.Need-read-count-requires-2
 read-count-requires-2 c κs = search needs
@@ -102,13 +130,14 @@ refused-requires-4 c κs = search needs
 returns-6 : tie.Need-returns-6
 returns-6 c =
     let s = c .before .before .before .before .before .before .before .before .before .before .before .before .before .before .before .before .before .before .before .args .file .now in
-    let e1 = sym (c .before .before .before .before .before .before .before .before .before .before .before .before .before .before .before .before .read-number .ensures) ∙ c .before .before .before .before .before .before .before .before .before .before .before .before .before .before .first .given .1 in
-    let e2 = sym (c .before .before .before .before .before .before .before .before .before .before .before .read-count .ensures) ∙ c .before .before .before .before .before .before .before .before .before .second .given .1 in
-    let l = labels-good (c .before .before .before .before .before .before .before .before .before .second .given .0 .0) s (c .before .before .before .before .before .before .before .before .before .second .given .0 .1 .0 .at) (sym (c .before .before .before .before .before .before .before .check-labels .ensures) ∙ c .before .before .before .before .before .labels .given .1) in
     let f = c .before .enum-told4 .given .1 in
+    let l = labels-are (c .before .before .before .before) in
     told s (c .refused4 .ensures) f
     (front-fault s
-    (front-edge-count s (omega arith) e1 (omega arith) e2 (l .1) (ap (countAt 0 mostEdges s) (l .3) ∙ sym (c .before .before .before .read-count2 .ensures) ∙ f)))
+    (front-edge-count s (omega arith)
+    (kind-is (c .before .before .before .before .before .before .before .before .before .before .before .before .before)) (omega arith)
+    (count-is (c .before .before .before .before .before .before .before .before)) (l .found)
+    (ap (countAt 0 mostEdges s) (l .ends) ∙ sym (c .before .before .before .read-count2 .ensures) ∙ f)))
 
 check-edges-requires : tie.Need-check-edges-requires
 check-edges-requires c κs = search needs
@@ -124,24 +153,27 @@ refused-requires-5 c κs = search needs
 
 returns-7 : tie.Need-returns-7
 returns-7 c =
-    let s = c .before .before .before .before .before .before .before .before .before .before .before .before .before .before .before .before .before .before .before .before .before .before .before .args .file .now in
-    let e1 = sym (c .before .before .before .before .before .before .before .before .before .before .before .before .before .before .before .before .before .before .before .before .read-number .ensures) ∙ c .before .before .before .before .before .before .before .before .before .before .before .before .before .before .before .before .before .before .first .given .1 in
-    let e2 = sym (c .before .before .before .before .before .before .before .before .before .before .before .before .before .before .before .read-count .ensures) ∙ c .before .before .before .before .before .before .before .before .before .before .before .before .before .second .given .1 in
-    let l = labels-good (c .before .before .before .before .before .before .before .before .before .before .before .before .before .second .given .0 .0) s (c .before .before .before .before .before .before .before .before .before .before .before .before .before .second .given .0 .1 .0 .at) (sym (c .before .before .before .before .before .before .before .before .before .before .before .check-labels .ensures) ∙ c .before .before .before .before .before .before .before .before .before .labels .given .1) in
-    let e4 = ap (countAt 0 mostEdges s) (l .3) ∙ sym (c .before .before .before .before .before .before .before .read-count2 .ensures) ∙ c .before .before .before .before .before .third .given .1 in
+    let d = c .before .before .before .before in
+    let l = d .before .before .before .before in
+    let b = l .before .before .before .before in
+    let a = b .before .before .before .before .before in
+    let s = a .before .before .before .before .before .before .args .file .now in
     let f = c .before .enum-told5 .given .1 in
+    let e = answered-fault _ _ (sym (c .before .before .before .check-edges .ensures) ∙ f) in
     told s (c .refused5 .ensures) f
-    (front-fault s (front-edges s (omega (arith, c .before .before .before .before .before .before .before .before .before .before .before .before .before .before .before .before .before .before .before .before .before .if1 .left)) e1 (omega (arith, c .before .before .before .before .before .before .before .before .before .before .before .before .before .before .before .before .if2 .left)) e2 (l .1) e4 (answered-fault _ _ (sym (c .before .before .before .check-edges .ensures) ∙ f))))
+    (front-fault s
+    (front-edges s (omega (arith, a .before .before .before .before .if1 .left)) (kind-is a) (omega (arith, b .before .before .before .before .if2 .left)) (count-is b) (labels-are l .found) (edge-count-is d) e))
 
 check-rest-requires : tie.Need-check-rest-requires
 check-rest-requires c κs =
-    let s = c .before .before .before .before .before .before .before .before .before .before .before .before .before .before .before .before .before .before .before .before .before .before .before .args .file .now in
-    let e1 = sym (c .before .before .before .before .before .before .before .before .before .before .before .before .before .before .before .before .before .before .before .before .read-number .ensures) ∙ c .before .before .before .before .before .before .before .before .before .before .before .before .before .before .before .before .before .before .first .given .1 in
-    let e2 = sym (c .before .before .before .before .before .before .before .before .before .before .before .before .before .before .before .read-count .ensures) ∙ c .before .before .before .before .before .before .before .before .before .before .before .before .before .second .given .1 in
-    let l = labels-good (c .before .before .before .before .before .before .before .before .before .before .before .before .before .second .given .0 .0) s (c .before .before .before .before .before .before .before .before .before .before .before .before .before .second .given .0 .1 .0 .at) (sym (c .before .before .before .before .before .before .before .before .before .before .before .check-labels .ensures) ∙ c .before .before .before .before .before .before .before .before .before .labels .given .1) in
-    let e4 = ap (countAt 0 mostEdges s) (l .3) ∙ sym (c .before .before .before .before .before .before .before .read-count2 .ensures) ∙ c .before .before .before .before .before .third .given .1 in
+    let d = c .before .before .before .before in
+    let l = d .before .before .before .before in
+    let b = l .before .before .before .before in
+    let a = b .before .before .before .before .before in
+    let s = a .before .before .before .before .before .before .args .file .now in
     let r = answered-good _ _ (sym (c .before .before .before .check-edges .ensures) ∙ c .before .edges .given .1) in
-    front-head s (omega (arith, c .before .before .before .before .before .before .before .before .before .before .before .before .before .before .before .before .before .before .before .before .before .if1 .left)) e1 (omega (arith, c .before .before .before .before .before .before .before .before .before .before .before .before .before .before .before .before .if2 .left)) e2 (l .1) e4 (r .0) (r .1) (l .2) (r .2)
+    front-head s (omega (arith, a .before .before .before .before .if1 .left)) (kind-is a) (omega (arith, b .before .before .before .before .if2 .left)) (count-is b) (labels-are l .found) (edge-count-is d)
+    (r .0) (r .1) (labels-are l .letters) (r .2)
 
 returns-8 : tie.Need-returns-8
 returns-8 c = search needs

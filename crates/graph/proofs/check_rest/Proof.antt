@@ -1,9 +1,12 @@
-use mathlib.Core.Path.{sym, ap, _∙_}
+use mathlib.Core.Path.{_≡_, sym, ap, _∙_}
 use borrow.Author.Tests.{not-true, not-false}
+use Rattle.wire.specs.Sizes.{mostPaths}
+use Rattle.wire.specs.declared.numbers.Number.the-variants.{Value}
+use Rattle.graph.specs.Answers.{countAt}
 use Rattle.graph.specs.Checked.{checkedOf}
 use Rattle.graph.proofs.Marking.{marks-start}
 use Rattle.graph.proofs.Passing.{answered-fault}
-use Rattle.graph.proofs.Fronting.{told, pathsOf, Covered, covered, head-edges, head-few, rest-stop, rest-fault, rest-off, rest-left, rest-good}
+use Rattle.graph.proofs.Fronting.{told, Covered, covered, head-edges, head-few, rest-stop, rest-fault, rest-off, rest-left, rest-good}
 use borrow.Author.Needs.{needs}
 use Rattle.graph.proofs.check_rest.Statement.{statement}
 use Rattle.graph.proofs.check_rest.Tie as tie
@@ -14,6 +17,12 @@ use Rattle.graph.proofs.marks.all_marked.Reads as all-marked-reads
 use Rattle.graph.proofs.marks.no_marks.Reads as no-marks-reads
 use Rattle.graph.proofs.paths.check_paths.Reads as check-paths-reads
 use Rattle.graph.proofs.refused.Reads as refused-reads
+
+-- K was read
+count-is : (c : tie.After-known-told)
+    → countAt 1 mostPaths (c .before .before .before .before .before .args .file .now) (c .before .before .before .before .before .args .head .next)
+    ≡ Value (c .before .count .given .0 .0) (c .before .count .given .0 .1 .0)
+count-is c = sym (c .before .before .before .read-count .ensures) ∙ c .before .count .given .1
 
 -- the paths were read and marked
 paths-read : (c : tie.After-known-told2)
@@ -45,7 +54,8 @@ returns : tie.Need-returns
 returns c =
     let f = c .before .enum-told .given .1 in
     told (c .before .before .before .before .before .args .file .now) (c .refused .ensures) f
-    (rest-stop (c .before .before .before .before .before .args .file .now) (c .before .before .before .before .before .args .head) (c .before .before .before .before .before .pre) (sym (c .before .before .before .read-count .ensures) ∙ f))
+    (rest-stop (c .before .before .before .before .before .args .file .now) (c .before .before .before .before .before .args .head)
+    (c .before .before .before .before .before .pre) (sym (c .before .before .before .read-count .ensures) ∙ f))
 
 no-marks-requires : tie.Need-no-marks-requires
 no-marks-requires c κs = search needs
@@ -55,8 +65,14 @@ slice-aggregate-check-paths c = search needs
 
 check-paths-requires : tie.Need-check-paths-requires
 check-paths-requires c κs =
-    let a = c .before .before .before .before .before .before .before .args in
-    (head-edges (c .before .before .before .before .before .before .before .args .file .now) (c .before .before .before .before .before .before .before .args .head) (c .before .before .before .before .before .before .before .pre), marks-start (c .before .no-marks .result) (a .head .n) (c .before .no-marks .ensures) (head-few (c .before .before .before .before .before .before .before .args .file .now) (c .before .before .before .before .before .before .before .args .head) (c .before .before .before .before .before .before .before .pre)))
+    let a = c .before .before .before .before .before .before .before .args in (
+      head-edges (c .before .before .before .before .before .before .before .args .file .now)
+          (c .before .before .before .before .before .before .before .args .head)
+          (c .before .before .before .before .before .before .before .pre),
+      marks-start (c .before .no-marks .result) (a .head .n)
+          (c .before .no-marks .ensures) (head-few (c .before .before .before .before .before .before .before .args .file .now)
+          (c .before .before .before .before .before .before .before .args .head) (c .before .before .before .before .before .before .before .pre)),
+    )
 
 enum-known-paths : tie.Need-enum-known-paths
 enum-known-paths c = search needs
@@ -72,8 +88,11 @@ returns-2 c =
     let f = c .before .enum-told2 .given .1 in
     let a = c .before .before .before .before .before .before .before .before .before .before .before .before .args in
     told (a .file .now) (c .refused2 .ensures) f
-    (rest-fault (c .before .before .before .before .before .before .before .before .before .before .before .before .args .file .now) (c .before .before .before .before .before .before .before .before .before .before .before .before .args .head) (c .before .before .before .before .before .before .before .before .before .before .before .before .pre) (sym (c .before .before .before .before .before .before .before .before .before .before .read-count .ensures) ∙ c .before .before .before .before .before .before .before .before .count .given .1)
-    (answered-fault _ (pathsOf (a .file .now) (a .head) (c .before .before .before .before .before .before .before .before .count .given .0 .0) (c .before .before .before .before .before .before .before .before .count .given .0 .1 .0 .at)) (sym (c .before .before .before .before .check-paths .ensures .0) ∙ f)))
+    (rest-fault (c .before .before .before .before .before .before .before .before .before .before .before .before .args .file .now)
+    (c .before .before .before .before .before .before .before .before .before .before .before .before .args .head)
+    (c .before .before .before .before .before .before .before .before .before .before .before .before .pre)
+    (count-is (c .before .before .before .before .before .before .before))
+    (answered-fault _ _ (sym (c .before .before .before .before .check-paths .ensures .0) ∙ f)))
 
 slice-aggregate-all-marked : tie.Need-slice-aggregate-all-marked
 slice-aggregate-all-marked c = search needs
@@ -85,23 +104,29 @@ all-marked-requires c κs =
 returns-3 : tie.Need-returns-3
 returns-3 c =
     let k = c .before .before .before in
-    let e = sym (k .before .before .before .before .before .before .before .before .before .before .read-count .ensures) ∙ k .before .before .before .before .before .before .before .before .count .given .1 in
     let h = k .before .before .before .before .before .before .before .before .before .before .before .before in
-    sym (ap checkedOf (rest-off (h .args .file .now) (h .args .head) (h .pre) e (paths-read k) (sym (c .before .all-marked .ensures) ∙ not-true _ (c .if1 .taken))))
+    let f = paths-read k in
+    let e = count-is (k .before .before .before .before .before .before .before) in
+    sym (ap checkedOf (rest-off (h .args .file .now) (h .args .head) (h .pre) e f
+    (sym (c .before .all-marked .ensures) ∙ not-true _ (c .if1 .taken))))
 
 returns-4 : tie.Need-returns-4
 returns-4 c =
     let k = c .before .before .before .before .before in
-    let e = sym (k .before .before .before .before .before .before .before .before .before .before .read-count .ensures) ∙ k .before .before .before .before .before .before .before .before .count .given .1 in
     let h = k .before .before .before .before .before .before .before .before .before .before .before .before in
-    sym (ap checkedOf (rest-left (h .args .file .now) (h .args .head) (h .pre) e (paths-read k) (sym (c .before .before .before .all-marked .ensures) ∙ not-false _ (c .before .before .if1 .left)) (λ z. c .if2 .taken z)))
+    let f = paths-read k in
+    let e = count-is (k .before .before .before .before .before .before .before) in
+    sym (ap checkedOf (rest-left (h .args .file .now) (h .args .head) (h .pre) e f
+    (sym (c .before .before .before .all-marked .ensures) ∙ not-false _ (c .before .before .if1 .left)) (λ z. c .if2 .taken z)))
 
 returns-5 : tie.Need-returns-5
 returns-5 c =
     let k = c .before .before .before .before .before in
-    let e = sym (k .before .before .before .before .before .before .before .before .before .before .read-count .ensures) ∙ k .before .before .before .before .before .before .before .before .count .given .1 in
     let h = k .before .before .before .before .before .before .before .before .before .before .before .before in
-    rest-good (h .args .file .now) (h .args .head) (h .pre) e (paths-read k) (sym (c .before .before .before .all-marked .ensures) ∙ not-false _ (c .before .before .if1 .left)) (c .if2 .left)
+    let f = paths-read k in
+    let e = count-is (k .before .before .before .before .before .before .before) in
+    rest-good (h .args .file .now) (h .args .head) (h .pre) e f
+    (sym (c .before .before .before .all-marked .ensures) ∙ not-false _ (c .before .before .if1 .left)) (c .if2 .left)
 
 pub check-rest-spec : {M : Type 1} → statement M
 check-rest-spec =

@@ -87,8 +87,7 @@ loop-again : tie.Need-loop-again Inv-loop μ-loop
 loop-again c =
     let k = c .before .before .before .before in
     let l = k .before .loop in
-    let t = told c in
-    (
+    let t = told c in (
       placing-more (l .inv .0) (stand (k .before .before) .short) _ _ (label k) (omega arith) (omega arith) (t .0) (t .1),
       omega arith,
       simp length-set (l .inv .2),

@@ -5,7 +5,6 @@ use mathlib.Core.List.{List}
 use native.Mathlib.Omega.{arith}
 use lib.ListN.{length, getD}
 use Rattle.wire.specs.Sizes.{fullLengths}
-
 use borrow.Author.Needs.{needs}
 use Rattle.anchors.proofs.labels.label_start.Statement.{statement}
 use Rattle.anchors.proofs.labels.label_start.Tie as tie

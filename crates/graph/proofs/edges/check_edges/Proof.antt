@@ -15,18 +15,23 @@ use Rattle.graph.proofs.rules.edge_fault.Reads as edge-fault-reads
 use Rattle.wire.proofs.numbers.read_number.Reads as read-number-reads
 
 abbrev Inv-loop : tie.InvT-loop
-Inv-loop file n m at₀ left₀ lastfrom₀ lastto₀ at left lastfrom lastto = answered m (edgesFrom n m (record { from = lastfrom₀; to = lastto₀ }) file at₀) ≡ answered m (edgesFrom n left (record { from = lastfrom; to = lastto }) file at)
+Inv-loop file n m at₀ left₀ lastfrom₀ lastto₀ at left lastfrom lastto =
+    answered m (edgesFrom n m (record { from = lastfrom₀; to = lastto₀ }) file at₀) ≡ answered m
+    (edgesFrom n left (record { from = lastfrom; to = lastto }) file at)
 
 abbrev μ-loop : tie.MeasureT-loop
 μ-loop file n m at₀ left₀ lastfrom₀ lastto₀ at left lastfrom lastto = left
 
 -- the two numbers of the edge
 first-is : (k : tie.After-known-told Inv-loop μ-loop)
-    → numberAt (k .before .before .before .before .before .before .before .args .file .now) (k .before .before .before .before .before .loop .at) ≡ Value (k .before .first .given .0 .0) (k .before .first .given .0 .1 .0)
+    → numberAt (k .before .before .before .before .before .before .before .args .file .now) (k .before .before .before .before .before .loop .at)
+    ≡ Value (k .before .first .given .0 .0) (k .before .first .given .0 .1 .0)
 first-is k = sym (k .before .before .before .read-number .ensures) ∙ k .before .first .given .1
 
 second-is : (k : tie.After-known-told2 Inv-loop μ-loop)
-    → numberAt (k .before .before .before .before .before .before .before .before .before .before .before .args .file .now) (k .before .before .before .before .before .first .given .0 .1 .0 .at) ≡ Value (k .before .second .given .0 .0) (k .before .second .given .0 .1 .0)
+    → numberAt (k .before .before .before .before .before .before .before .before .before .before .before .args .file .now)
+    (k .before .before .before .before .before .first .given .0 .1 .0 .at) ≡ Value (k .before .second .given .0 .0)
+    (k .before .second .given .0 .1 .0)
 second-is k = sym (k .before .before .before .read-number2 .ensures) ∙ k .before .second .given .1
 
 loop-holds : tie.Need-loop-holds Inv-loop μ-loop
@@ -46,7 +51,9 @@ returns c =
     let l = c .before .before .before .before .loop in
     let a = c .before .before .before .before .before .before .args in
     let f = c .enum-told .given .1 in
-    f ∙ sym (l .inv ∙ ap (answered (a .m)) (edges-stop (a .n) (l .left) (record { from = l .lastfrom; to = l .lastto }) (a .file .now) (l .at) (omega arith) (sym (c .before .before .read-number .ensures) ∙ f)))
+    f ∙ sym (l .inv ∙ ap (answered (a .m))
+    (edges-stop (a .n) (l .left) (record { from = l .lastfrom; to = l .lastto }) (a .file .now) (l .at) (omega arith)
+    (sym (c .before .before .read-number .ensures) ∙ f)))
 
 read-number-requires-2 : tie.Need-read-number-requires-2 Inv-loop μ-loop
 read-number-requires-2 c κs = search needs
@@ -62,7 +69,9 @@ returns-2 c =
     let l = c .before .before .before .before .before .before .before .before .loop in
     let a = c .before .before .before .before .before .before .before .before .before .before .args in
     let f = c .enum-told2 .given .1 in
-    f ∙ sym (l .inv ∙ ap (answered (a .m)) (edges-stop-second (a .n) (l .left) (record { from = l .lastfrom; to = l .lastto }) (a .file .now) (l .at) (omega arith) (first-is (c .before .before .before)) (sym (c .before .before .read-number2 .ensures) ∙ f)))
+    f ∙ sym (l .inv ∙ ap (answered (a .m))
+    (edges-stop-second (a .n) (l .left) (record { from = l .lastfrom; to = l .lastto }) (a .file .now) (l .at) (omega arith)
+    (first-is (c .before .before .before)) (sym (c .before .before .read-number2 .ensures) ∙ f)))
 
 edge-fault-requires : tie.Need-edge-fault-requires Inv-loop μ-loop
 edge-fault-requires c κs = search needs
@@ -73,7 +82,9 @@ returns-3 c =
     let a = c .before .before .before .before .before .before .before .before .before .before .before .before .before .args in
     let r = c .before .edge-fault .ensures in
     ap (λ (i : ℕ). Fault i (l .at)) r
-    ∙ sym (l .inv ∙ ap (answered (a .m)) (edges-bad (a .n) (l .left) (record { from = l .lastfrom; to = l .lastto }) (a .file .now) (l .at) (omega arith) (first-is (c .before .before .before .before .before .before)) (second-is (c .before .before)) (λ z. c .if1 .taken (r ∙ z))))
+    ∙ sym (l .inv ∙ ap (answered (a .m))
+    (edges-bad (a .n) (l .left) (record { from = l .lastfrom; to = l .lastto }) (a .file .now) (l .at) (omega arith)
+    (first-is (c .before .before .before .before .before .before)) (second-is (c .before .before)) (λ z. c .if1 .taken (r ∙ z))))
 
 sub-left : tie.Need-sub-left Inv-loop μ-loop
 sub-left c = omega arith
@@ -85,13 +96,16 @@ loop-again : tie.Need-loop-again Inv-loop μ-loop
 loop-again c =
     let l = c .before .before .before .before .before .before .before .before .before .before .before .loop in
     let a = c .before .before .before .before .before .before .before .before .before .before .before .before .before .args in
-    l .inv ∙ edges-next (a .n) (l .left) (record { from = l .lastfrom; to = l .lastto }) (a .file .now) (l .at) (omega arith) (first-is (c .before .before .before .before .before .before)) (second-is (c .before .before)) (a .m) (sym (c .before .edge-fault .ensures) ∙ c .if1 .left)
+    l .inv ∙ edges-next (a .n) (l .left) (record { from = l .lastfrom; to = l .lastto }) (a .file .now) (l .at) (omega arith)
+    (first-is (c .before .before .before .before .before .before)) (second-is (c .before .before)) (a .m)
+    (sym (c .before .edge-fault .ensures) ∙ c .if1 .left)
 
 returns-4 : tie.Need-returns-4 Inv-loop μ-loop
 returns-4 c =
     let l = c .before .loop in
     let a = c .before .before .before .args in
-    sym (l .inv ∙ ap (answered (a .m)) (edges-done (a .n) (l .left) (record { from = l .lastfrom; to = l .lastto }) (a .file .now) (l .at) (omega arith)))
+    sym (l .inv ∙ ap (answered (a .m))
+    (edges-done (a .n) (l .left) (record { from = l .lastfrom; to = l .lastto }) (a .file .now) (l .at) (omega arith)))
 
 pub check-edges-spec : {M : Type 1} → statement M
 check-edges-spec =

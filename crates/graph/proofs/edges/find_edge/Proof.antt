@@ -25,11 +25,14 @@ abbrev μ-loop : tie.MeasureT-loop
 
 -- the two numbers of the edge
 first-is : (k : tie.After-known-told Inv-loop μ-loop)
-    → numberAt (k .before .before .before .before .before .before .before .args .file .now) (k .before .before .before .before .before .loop .at) ≡ Value (k .before .first .given .0 .0) (k .before .first .given .0 .1 .0)
+    → numberAt (k .before .before .before .before .before .before .before .args .file .now) (k .before .before .before .before .before .loop .at)
+    ≡ Value (k .before .first .given .0 .0) (k .before .first .given .0 .1 .0)
 first-is k = sym (k .before .before .before .read-number .ensures) ∙ k .before .first .given .1
 
 second-is : (k : tie.After-known-told2 Inv-loop μ-loop)
-    → numberAt (k .before .before .before .before .before .before .before .before .before .before .before .args .file .now) (k .before .before .before .before .before .first .given .0 .1 .0 .at) ≡ Value (k .before .second .given .0 .0) (k .before .second .given .0 .1 .0)
+    → numberAt (k .before .before .before .before .before .before .before .before .before .before .before .args .file .now)
+    (k .before .before .before .before .before .first .given .0 .1 .0 .at) ≡ Value (k .before .second .given .0 .0)
+    (k .before .second .given .0 .1 .0)
 second-is k = sym (k .before .before .before .read-number2 .ensures) ∙ k .before .second .given .1
 
 loop-holds : tie.Need-loop-holds Inv-loop μ-loop
@@ -51,7 +54,8 @@ returns : tie.Need-returns Inv-loop μ-loop
 returns c =
     let l = c .before .before .before .before .before .loop in
     let a = c .before .before .before .before .before .before .before .args in
-    c .ended .ensures ∙ sym (l .inv ∙ search-stop (l .ahead) (a .file .now) (l .at) (a .u) (a .v) (omega arith) (sym (c .before .before .before .read-number .ensures) ∙ c .before .enum-told .given .1))
+    c .ended .ensures ∙ sym (l .inv ∙ search-stop (l .ahead) (a .file .now) (l .at) (a .u) (a .v) (omega arith)
+    (sym (c .before .before .before .read-number .ensures) ∙ c .before .enum-told .given .1))
 
 read-number-requires-2 : tie.Need-read-number-requires-2 Inv-loop μ-loop
 read-number-requires-2 c κs = search needs
@@ -70,7 +74,8 @@ returns-2 c =
     let l = c .before .before .before .before .before .before .before .before .before .loop in
     let a = c .before .before .before .before .before .before .before .before .before .before .before .args in
     c .ended2 .ensures
-    ∙ sym (l .inv ∙ search-stop-second (l .ahead) (a .file .now) (l .at) (a .u) (a .v) (omega arith) (first-is (c .before .before .before .before)) (sym (c .before .before .before .read-number2 .ensures) ∙ c .before .enum-told2 .given .1))
+    ∙ sym (l .inv ∙ search-stop-second (l .ahead) (a .file .now) (l .at) (a .u) (a .v) (omega arith) (first-is (c .before .before .before .before))
+    (sym (c .before .before .before .read-number2 .ensures) ∙ c .before .enum-told2 .given .1))
 
 edge-below-requires : tie.Need-edge-below-requires Inv-loop μ-loop
 edge-below-requires c κs = search needs
@@ -87,7 +92,9 @@ returns-3 c =
     let a = c .before .before .before .before .before .before .before .before .before .before .before .before .before .before .before .args in
     c .ended3 .ensures
     ∙ ap (λ (b : Bool). record { found = b; at = l .at; left = l .ahead }) (c .before .same-edge .ensures)
-    ∙ sym (l .inv ∙ search-end (l .ahead) (a .file .now) (l .at) (a .u) (a .v) (omega arith) (first-is (c .before .before .before .before .before .before .before .before)) (second-is (c .before .before .before .before)) (sym (c .before .before .before .edge-below .ensures) ∙ not-true _ (c .before .before .if1 .taken)))
+    ∙ sym (l .inv ∙ search-end (l .ahead) (a .file .now) (l .at) (a .u) (a .v) (omega arith)
+    (first-is (c .before .before .before .before .before .before .before .before)) (second-is (c .before .before .before .before))
+    (sym (c .before .before .before .edge-below .ensures) ∙ not-true _ (c .before .before .if1 .taken)))
 
 sub-ahead : tie.Need-sub-ahead Inv-loop μ-loop
 sub-ahead c = omega arith
@@ -99,7 +106,8 @@ loop-again : tie.Need-loop-again Inv-loop μ-loop
 loop-again c =
     let l = c .before .before .before .before .before .before .before .before .before .before .before .loop in
     let a = c .before .before .before .before .before .before .before .before .before .before .before .before .before .args in
-    l .inv ∙ search-next (l .ahead) (a .file .now) (l .at) (a .u) (a .v) (omega arith) (first-is (c .before .before .before .before .before .before)) (second-is (c .before .before)) (sym (c .before .edge-below .ensures) ∙ not-false _ (c .if1 .left))
+    l .inv ∙ search-next (l .ahead) (a .file .now) (l .at) (a .u) (a .v) (omega arith) (first-is (c .before .before .before .before .before .before))
+    (second-is (c .before .before)) (sym (c .before .edge-below .ensures) ∙ not-false _ (c .if1 .left))
 
 ended-requires-4 : tie.Need-ended-requires-4 Inv-loop μ-loop
 ended-requires-4 c κs = search needs

@@ -40,7 +40,8 @@ returns c =
     let a = k .before .before .args in
     let f = c .enum-told .given .1 in
     f
-    ∙ sym (l .inv ∙ ap (labelsAnswer (l .sum)) (labels-stop (l .left) (l .sum) (a .file .now) (l .at) (omega arith) (sym (c .before .before .read-number .ensures) ∙ f)))
+    ∙ sym (l .inv ∙ ap (labelsAnswer (l .sum))
+    (labels-stop (l .left) (l .sum) (a .file .now) (l .at) (omega arith) (sym (c .before .before .read-number .ensures) ∙ f)))
 
 length-fault-requires : tie.Need-length-fault-requires Inv-loop μ-loop
 length-fault-requires c κs = search needs
@@ -75,7 +76,8 @@ returns-3 c =
     let r = sym (j .before .length-fault .ensures) ∙ j .if1 .left in
     let f = c .enum-told2 .given .1 in
     f
-    ∙ sym (l .inv ∙ ap (labelsAnswer (l .sum)) (labels-letter (l .left) (l .sum) (a .file .now) (l .at) (omega arith) e r (sym (c .before .before .check-letters .ensures) ∙ f)))
+    ∙ sym (l .inv ∙ ap (labelsAnswer (l .sum))
+    (labels-letter (l .left) (l .sum) (a .file .now) (l .at) (omega arith) e r (sym (c .before .before .check-letters .ensures) ∙ f)))
 
 add-sum : tie.Need-add-sum Inv-loop μ-loop
 add-sum c =
@@ -99,7 +101,8 @@ loop-again c =
     let e = sym (j .before .before .before .before .before .read-number .ensures) ∙ j .before .before .before .got .given .1 in
     let r = sym (j .before .length-fault .ensures) ∙ j .if1 .left in
     l .inv
-    ∙ labels-next (l .left) (l .sum) (a .file .now) (l .at) (omega arith) e r (sym (c .before .before .before .check-letters .ensures) ∙ c .before .letters .given .1)
+    ∙ labels-next (l .left) (l .sum) (a .file .now) (l .at) (omega arith) e r
+    (sym (c .before .before .before .check-letters .ensures) ∙ c .before .letters .given .1)
 
 returns-4 : tie.Need-returns-4 Inv-loop μ-loop
 returns-4 c =

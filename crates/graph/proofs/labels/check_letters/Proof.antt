@@ -13,7 +13,9 @@ use Rattle.graph.proofs.labels.check_letters.Lts as lts
 use Rattle.graph.proofs.rules.letter_fault.Reads as letter-fault-reads
 
 abbrev Inv-loop : tie.InvT-loop
-Inv-loop file len start at₀ left₀ at left = (lettersAnswer len (start + len) (lettersFrom len file start) ≡ lettersAnswer len (start + len) (lettersFrom left file at)) × (at + left ≡ start + len)
+Inv-loop file len start at₀ left₀ at left =
+    (lettersAnswer len (start + len) (lettersFrom len file start) ≡ lettersAnswer len (start + len) (lettersFrom left file at)) ×
+    (at + left ≡ start + len)
 
 abbrev μ-loop : tie.MeasureT-loop
 μ-loop file len start at₀ left₀ at left = left
@@ -25,7 +27,8 @@ returns : tie.Need-returns Inv-loop μ-loop
 returns c =
     let k = c .before .before in
     let a = k .before .before .args in
-    sym (k .loop .inv .0 ∙ ap (lettersAnswer (a .len) (a .cursor .at + a .len)) (letters-end (k .loop .left) (a .file .now) (k .loop .at) (omega arith) (omega arith)))
+    sym (k .loop .inv .0 ∙ ap (lettersAnswer (a .len) (a .cursor .at + a .len))
+    (letters-end (k .loop .left) (a .file .now) (k .loop .at) (omega arith) (omega arith)))
 
 shared-slice-read-letter-fault : tie.Need-shared-slice-read-letter-fault Inv-loop μ-loop
 shared-slice-read-letter-fault c = omega arith
@@ -39,7 +42,8 @@ returns-2 c =
     let a = k .before .before .args in
     let r = c .before .letter-fault .ensures in
     ap (λ (j : ℕ). Fault j (k .loop .at)) r
-    ∙ sym (k .loop .inv .0 ∙ ap (lettersAnswer (a .len) (a .cursor .at + a .len)) (letters-bad (k .loop .left) (a .file .now) (k .loop .at) (omega arith) (omega arith) (λ z. c .if2 .taken (r ∙ z))))
+    ∙ sym (k .loop .inv .0 ∙ ap (lettersAnswer (a .len) (a .cursor .at + a .len))
+    (letters-bad (k .loop .left) (a .file .now) (k .loop .at) (omega arith) (omega arith) (λ z. c .if2 .taken (r ∙ z))))
 
 add-at : tie.Need-add-at Inv-loop μ-loop
 add-at c = omega arith
@@ -54,8 +58,11 @@ loop-again : tie.Need-loop-again Inv-loop μ-loop
 loop-again c =
     let k = c .before .before .before .before .before in
     let a = k .before .before .args in
-    let r = c .before .letter-fault .ensures in
-    (k .loop .inv .0 ∙ letters-next (k .loop .left) (a .file .now) (k .loop .at) (omega arith) (a .len) (a .cursor .at + a .len) (omega arith) (sym r ∙ c .if2 .left), omega arith)
+    let r = c .before .letter-fault .ensures in (
+      k .loop .inv .0 ∙ letters-next (k .loop .left) (a .file .now) (k .loop .at) (omega arith) (a .len) (a .cursor .at + a .len) (omega arith)
+          (sym r ∙ c .if2 .left),
+      omega arith,
+    )
 
 returns-3 : tie.Need-returns-3 Inv-loop μ-loop
 returns-3 c =
@@ -63,7 +70,8 @@ returns-3 c =
     let a = k .before .before .args in
     let e : k .loop .at ≡ a .cursor .at + a .len = omega arith in
     ap (λ (j : ℕ). Value (a .len) (record { at = j })) e
-    ∙ sym (k .loop .inv .0 ∙ ap (lettersAnswer (a .len) (a .cursor .at + a .len)) (letters-done (k .loop .left) (a .file .now) (k .loop .at) (omega arith)))
+    ∙ sym (k .loop .inv .0 ∙ ap (lettersAnswer (a .len) (a .cursor .at + a .len))
+    (letters-done (k .loop .left) (a .file .now) (k .loop .at) (omega arith)))
 
 pub check-letters-spec : {M : Type 1} → statement M
 check-letters-spec =

@@ -31,13 +31,23 @@ returns-3 : tie.Need-returns-3
 unfolding edgeFault
 returns-3 c =
     let k = c .before .before .before in
-    simp (sym (k .before .before .is-vertex .ensures) ∙ not-false _ (k .before .if1 .left), sym (k .is-vertex2 .ensures) ∙ not-false _ (c .before .before .if2 .left), sym (c .before .edge-below .ensures) ∙ c .if3 .taken)
+    simp (
+      sym (k .before .before .is-vertex .ensures) ∙ not-false _ (k .before .if1 .left),
+      sym (k .is-vertex2 .ensures) ∙ not-false _
+          (c .before .before .if2 .left),
+      sym (c .before .edge-below .ensures) ∙ c .if3 .taken,
+    )
 
 returns-4 : tie.Need-returns-4
 unfolding edgeFault
 returns-4 c =
     let k = c .before .before .before in
-    simp (sym (k .before .before .is-vertex .ensures) ∙ not-false _ (k .before .if1 .left), sym (k .is-vertex2 .ensures) ∙ not-false _ (c .before .before .if2 .left), sym (c .before .edge-below .ensures) ∙ c .if3 .left)
+    simp (
+      sym (k .before .before .is-vertex .ensures) ∙ not-false _ (k .before .if1 .left),
+      sym (k .is-vertex2 .ensures) ∙ not-false _
+          (c .before .before .if2 .left),
+      sym (c .before .edge-below .ensures) ∙ c .if3 .left,
+    )
 
 pub edge-fault-spec : {M : Type 1} → statement M
 edge-fault-spec =

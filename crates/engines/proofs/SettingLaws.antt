@@ -1,0 +1,214 @@
+-- What a setting that holds a graph and anchors gives the sweep: that its sums fit, that its steps are those of the anchors, and so that its rounds are the
+-- sweep's. Assumes nothing.
+use Prim.Native.Nat.{ℕ, zero, suc, _+_, _-_, _*_, _≤_, _<_, _^_, max}
+use mathlib.Core.Path.{_≡_, refl, sym, ap, _∙_, subst}
+use mathlib.Core.Logic.{_≢_, _⊎_, inl, inr, ite}
+use mathlib.Core.List.{List, [], map}
+use native.Mathlib.Decide.{decLe, ℕ-discrete}
+use native.Mathlib.Nat.{le-refl}
+use native.Mathlib.Omega.{arith}
+use native.Mathlib.Numerals.{add-one, sub-one}
+use lib.ListN.{length, getD, set, length-set, List·getD-map}
+use lib.Seq.{getD-set-same, getD-set-other, ext-getD}
+use Rattle.wire.specs.Sizes.{mostLetters, mostRead, mostWeight}
+use Rattle.rounds.specs.Rounds.{Within, sweep, Rounds}
+use Rattle.rounds.specs.Gather.{gather}
+use Rattle.rounds.specs.Rule.{Rule, value}
+use Rattle.rounds.specs.Kinds.{scoreRule}
+use Rattle.rounds.specs.Place.{entryPlace}
+use Rattle.rounds.specs.Table.{entry, cellStep, entryStep, vectorRound}
+use Rattle.rounds.specs.Loop.{Ends}
+use Rattle.rounds.proofs.Upto.{within, within-suc, within-last, total}
+use Rattle.rounds.proofs.Fits.{max-order}
+use Rattle.rounds.proofs.Gather.{gather-one}
+use Rattle.rounds.proofs.InPlace.{Keeps, sweep-keeps, round-keeps}
+use Rattle.rounds.proofs.Counts.{rounds-mirror, settles-ends}
+use Rattle.graph.specs.Content.{Graph, vertexCount}
+use Rattle.graph.specs.Good.{GoodGraph}
+use Rattle.anchors.specs.Anchors.{Anchor, AnchorSet, y, d}
+use Rattle.anchors.specs.AnchorRules.{noAnchor}
+use Rattle.anchors.specs.GoodAnchors.{GoodAnchor}
+use Rattle.cover.specs.Walks.{L, Goes}
+use Rattle.cover.specs.Cells.{IsClosed}
+use Rattle.cover.proofs.GoodLaws.{all-at, labels-few, total-upto}
+use Rattle.cover.proofs.WalkLaws.{joined-to, goes-first}
+use Rattle.cover.proofs.GoesLaws.{goes-cover}
+use Rattle.cover.proofs.CoverLaws.{cover-at-least}
+use Rattle.chain.specs.Steps.{anchorAt, Before, Step}
+use Rattle.chain.specs.Sweep.{IsSteps, weights, stepLinks, sweepRound, Swept, none, rounds}
+use Rattle.chain.proofs.StepLaws.{Sound}
+use Rattle.chain.proofs.StepsThere.{Distances}
+use Rattle.chain.proofs.SweepLaws.{SweptWell, sweep-settles, swept-well}
+use Rattle.engines.specs.Pairs.{stepIn, stepFrom, EndsFit, RowFits, ScoresFit}
+use Rattle.engines.specs.Setting.{Setting, anchorOf, rowIn, stepOf, ruleOf, roundOf, Holds}
+use Rattle.engines.specs.Sweeping.{weightsOf, ScoresLow}
+use Rattle.engines.proofs.PairLaws.{step-late}
+use Rattle.engines.proofs.RowLaws.{held-vertex, row-says, row-own, row-long}
+use Rattle.engines.proofs.StepSays.{RowSays, step-not, step-is, entry-fits}
+use Rattle.engines.proofs.EachLaws.{each-length, each-at}
+
+less-one : (k : ℕ) → suc k - 1 ≡ k
+less-one k = omega arith
+
+-- a label is no longer than all together
+label-few : {g : Graph} → GoodGraph g → (v : ℕ) → Within (vertexCount g) v → L g v ≤ mostLetters
+unfolding total
+label-few {g} G zero w = absurd (omega arith)
+label-few {g} G (suc v) w = omega (arith, total-upto (L g) (suc v) (vertexCount g) (w .high), labels-few G)
+
+-- what keeps an anchor's numbers within their types
+pub record AnchorFits (n : ℕ) (A : Anchor) : Type 0 where
+  pub vertex : Within n (A .v)
+  pub x : Within mostRead (A .x)
+  pub c : Within mostRead (A .c)
+  pub length : 1 ≤ A .len
+  pub weight : Within mostWeight (A .weight)
+  pub last : y A ≤ mostRead
+  pub end : d A ≤ mostRead
+
+module _ {s : Setting} {g : Graph} {a : AnchorSet} (H : Holds s g a) where
+  pub held-anchor : (j : ℕ) → Within (s .count) j → GoodAnchor g (a .read) (anchorAt (a .anchors) j)
+  held-anchor j w = all-at noAnchor _ (a .anchors) (H .goodAnchors .each) (j - 1) (omega (arith, H .anchorsAre))
+
+  pub anchor-fits : (j : ℕ) → Within (s .count) j → AnchorFits (s .n) (anchorOf s j)
+  unfolding L
+  anchor-fits j w =
+      let A = held-anchor j w in
+      let v : Within (vertexCount g) (anchorAt (a .anchors) j .v) = within (A .vertex .0) (A .vertex .1) in
+      let l = label-few (H .good) (anchorAt (a .anchors) j .v) v in
+      let r = H .goodAnchors .fewRead in
+      rw (H .numbers j w) (record {
+        vertex = within (A .vertex .0) (omega (arith, A .vertex .1, H .vertices));
+        x = within (A .someX) (omega (arith, A .inLabel, A .someLength));
+        c = within (A .someC) (omega (arith, A .inRead, A .someLength));
+        length = A .someLength;
+        weight = within (A .someWeight) (A .fewWeight);
+        last = omega (arith, A .inLabel);
+        end = omega (arith, A .inRead);
+      })
+
+  -- ---- the step
+
+  pub row-of : (v : ℕ) → Within (s .n) v → RowSays g v (rowIn s v)
+  row-of v w = record {
+    others = λ u wu h. row-says H v w u (within (wu .low) (omega (arith, H .vertices))) h;
+    closed = entry v (s .closed);
+    isClosed = H .closed v w;
+    own = row-own H v w;
+  }
+
+  module _ (i j : ℕ) (wi : Within (s .count) i) (wj : Within (s .count) j) where
+    target : Within (s .n) (anchorAt (a .anchors) j .v)
+    target = let A = held-anchor j wj in within (A .vertex .0) (omega (arith, A .vertex .1, H .vertices))
+
+    -- the step from anchor i to anchor j, by their numbers
+    pub step-held : stepOf s i j ≡ stepIn (rowIn s (anchorAt (a .anchors) j .v)) (anchorAt (a .anchors) i .v) (y (anchorAt (a .anchors) i)) (d (anchorAt (a .anchors) i))
+        (anchorAt (a .anchors) j .v) (anchorAt (a .anchors) j .x) (anchorAt (a .anchors) j .c)
+    unfolding stepOf
+    step-held =
+        ap (λ (B : Anchor). stepFrom (s .ends) (rowIn s (B .v)) (B .v) (B .x) (B .c) i) (H .numbers j wj)
+        ∙ rw (H .us i wi, H .ys i wi, H .ds i wi)
+
+    pub held-not : stepOf s i j ≡ 0 → Before g (anchorAt (a .anchors) i) (anchorAt (a .anchors) j) → ⊥
+    held-not e = step-not (H .good) (held-anchor i wi) (held-anchor j wj) (row-of _ target) (sym step-held ∙ e)
+
+    pub held-step : (k : ℕ) → stepOf s i j ≡ suc k → Step g (anchorAt (a .anchors) i) (anchorAt (a .anchors) j) k
+    held-step k e = step-is (H .good) (held-anchor i wi) (held-anchor j wj) (row-of _ target) k (sym step-held ∙ e)
+
+    -- along a step the read place rises
+    held-rises : 1 ≤ stepOf s i j → anchorOf s i .c < anchorOf s j .c
+    held-rises h = late (decLe (anchorAt (a .anchors) j .c) (d (anchorAt (a .anchors) i)))
+      where
+        late : Dec (anchorAt (a .anchors) j .c ≤ d (anchorAt (a .anchors) i)) → anchorOf s i .c < anchorOf s j .c
+        late (yes l) = absurd (omega (
+          arith,
+          step-held,
+          step-late (rowIn s (anchorAt (a .anchors) j .v)) (anchorAt (a .anchors) i .v) (y (anchorAt (a .anchors) i)) (d (anchorAt (a .anchors) i))
+              (anchorAt (a .anchors) j .v) (anchorAt (a .anchors) j .x) (anchorAt (a .anchors) j .c) l,
+        ))
+        late (no n) =
+            let ei = ap (λ (A : Anchor). A .c) (H .numbers i wi) in
+            let ej = ap (λ (A : Anchor). A .c) (H .numbers j wj) in
+            let l = held-anchor i wi .someLength in
+            omega arith
+
+  -- ---- that the sums fit
+
+  pub ends-fit : EndsFit (s .count) (s .ends)
+  ends-fit = record { us = H .usRoom; ys = H .ysRoom; ds = H .dsRoom }
+
+  pub row-fits : (v : ℕ) → Within (s .n) v → (j : ℕ) → Within (s .count) j → anchorOf s j .v ≡ v → RowFits (s .count) (s .ends) (rowIn s v)
+  row-fits v w j wj e = record {
+    low = λ i h. rw (here i h) (of i h .vertex .0);
+    high = λ i h. rw (here i h) (omega (arith, of i h .vertex .1, H .vertices, row-long H v w));
+    above = λ i h. rw (here i h, there i h) (fits i h .0);
+    small = λ i h. rw (here i h) (fits i h .1);
+  }
+    where
+      at : (i : ℕ) → i < s .count → Within (s .count) (suc i)
+      at i h = within (omega arith) h
+
+      of : (i : ℕ) → i < s .count → GoodAnchor g (a .read) (anchorAt (a .anchors) (suc i))
+      of i h = held-anchor (suc i) (at i h)
+
+      here : (i : ℕ) → i < s .count → getD (s .ends .us) i 0 ≡ anchorAt (a .anchors) (suc i) .v
+      here i h = ap (λ (q : ℕ). getD (s .ends .us) q 0) (sym (less-one i)) ∙ H .us (suc i) (at i h)
+
+      there : (i : ℕ) → i < s .count → getD (s .ends .ys) i 0 ≡ y (anchorAt (a .anchors) (suc i))
+      there i h = ap (λ (q : ℕ). getD (s .ends .ys) q 0) (sym (less-one i)) ∙ H .ys (suc i) (at i h)
+
+      says : RowSays g (anchorAt (a .anchors) j .v) (rowIn s v)
+      says = subst (λ (u : ℕ). RowSays g u (rowIn s v)) (sym e ∙ ap (λ (A : Anchor). A .v) (H .numbers j wj)) (row-of v w)
+
+      fits : (i : ℕ) → i < s .count → ((entry (anchorAt (a .anchors) (suc i) .v) (rowIn s v) ≡ 0) ⊎ (y (anchorAt (a .anchors) (suc i)) < entry (anchorAt (a .anchors) (suc i) .v) (rowIn s v)))
+          × (entry (anchorAt (a .anchors) (suc i) .v) (rowIn s v) ≤ 131072)
+      fits i h = entry-fits (H .good) (of i h) (held-anchor j wj) says
+
+  pub scores-fit : (scores : List ℕ) → ScoresLow s scores → ScoresFit (s .count) scores
+  scores-fit scores l = (omega (arith, l .size), λ i h. high i h)
+    where
+      high : (i : ℕ) → i < s .count → getD scores i 0 ≤ mostWeight * mostRead
+      high i h =
+          let w : Within (s .count) (suc i) = within (omega arith) h in
+          let q = l .low (suc i) w in
+          let c = anchor-fits (suc i) w .c .high in
+          subst (λ (p : ℕ). getD scores p 0 ≤ mostWeight * mostRead) (less-one i) (omega arith)
+
+  -- ---- how high the scores come
+
+  -- at the start a score is a weight
+  pub low-start : ScoresLow s (weightsOf s)
+  low-start = record {
+    size = each-length (λ A. A .weight) (s .numbers) (s .count);
+    low = λ j w.
+        let f = anchor-fits j w in
+        let h = f .weight .high in
+        let l = f .c .low in
+        omega (arith, each-at (λ A. A .weight) (s .numbers) (s .count) (j - 1) (omega arith));
+  }
+
+  -- and each step adds a weight at most, and comes to a later place of the read
+  pub low-keeps : Keeps (s .count) (entryStep (ruleOf s)) (ScoresLow s)
+  unfolding cellStep value
+  low-keeps v t w l = record {
+    size = rw length-set (l .size);
+    low = λ j wj. at j wj (ℕ-discrete j v);
+  }
+    where
+      x : ℕ
+      x = value (ruleOf s) (λ u. entry u t) v
+
+      below : x ≤ mostWeight * anchorOf s v .c
+      below = go (gather-one max-order (λ i. decLe 1 (stepOf s i v)) (λ i. entry i t + anchorOf s v .weight - (stepOf s i v - 1)) (entry v t) (s .count))
+        where
+          go : (x ≡ entry v t) ⊎ ((e : ℕ) × Within (s .count) e × (1 ≤ stepOf s e v) × (x ≡ entry e t + anchorOf s v .weight - (stepOf s e v - 1))) → x ≤ mostWeight * anchorOf s v .c
+          go (inl e) = omega (arith, l .low v w)
+          go (inr (e, we, h, q)) =
+              let r = held-rises e v we w h in
+              let p = l .low e we in
+              let b = anchor-fits v w .weight .high in
+              omega arith
+
+      at : (j : ℕ) → Within (s .count) j → Dec (j ≡ v) → entry j (set t (v - 1) x) ≤ mostWeight * anchorOf s j .c
+      at j wj (yes e) = rw e (rw (getD-set-same t (v - 1) x 0 (omega (arith, l .size))) below)
+      at j wj (no n) = rw (getD-set-other t (v - 1) (j - 1) x 0 (λ e. n (omega arith))) (l .low j wj)
