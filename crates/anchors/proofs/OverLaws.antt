@@ -1,7 +1,7 @@
 -- The check of an anchor file over an accepted graph, section by section: what each number, rule or part that was read makes of it.
 -- Assumes nothing.
 use Prim.Native.Nat.{ℕ, _+_, _≤_, _<_}
-use mathlib.Core.Path.{_≡_, refl, sym, ap, _∙_}
+use mathlib.Core.Path.{_≡_, sym, ap, _∙_}
 use mathlib.Core.List.{List}
 use mathlib.Core.Bool.{Bool, true, false}
 use native.Mathlib.Omega.{arith}
@@ -18,7 +18,7 @@ use Rattle.wire.specs.declared.numbers.Cursor.{Cursor}
 use Rattle.wire.specs.declared.numbers.Number.{Number}
 use Rattle.wire.specs.declared.numbers.Number.the-variants.{Value, Fault}
 use Rattle.wire.proofs.NumberLaws.{number-within}
-use Rattle.graph.specs.Answers.{ranged, countAt, lettersAnswer}
+use Rattle.graph.specs.Answers.{ranged, countAt}
 use Rattle.graph.specs.Content.{Graph}
 use Rattle.graph.specs.Rules.{rangeFault}
 use Rattle.graph.specs.Reading.{lettersFrom}
@@ -91,17 +91,6 @@ module _ (g : Graph) (s : List ℕ) where
       ap (λ (x : Found (Part (List Anchor))). andThen x (endOn s read b c)) e ∙ simp (eq-eqb (p .next) (length s) h)
 
 -- ---- the read's letters
-
-pub letters-good : (x next : ℕ) (y : Found (List ℕ)) {v : ℕ} {c : Cursor} → lettersAnswer x next y ≡ Value v c
-    → (l : List ℕ) × (y ≡ good l) × (c .at ≡ next)
-letters-good x next (good l) {v} {c} e =
-    let q : record { at = next } ≡ c = cc in
-    (l, refl, ap (λ (d : Cursor). d .at) (sym q))
-letters-good x next (fault k p) e = let z : _≡_ {A = ℕ} 0 1 = cc in absurd (omega arith)
-
-pub letters-fault : (x next : ℕ) (y : Found (List ℕ)) {k p : ℕ} → lettersAnswer x next y ≡ Fault k p → y ≡ fault k p
-letters-fault x next (good l) e = let z : _≡_ {A = ℕ} 0 1 = cc in absurd (omega arith)
-letters-fault x next (fault k p) e = cc
 
 -- the letters that were read are that part of the file
 pub letters-part : (r : ℕ) (s : List ℕ) (at : ℕ) (l : List ℕ) → LettersRead r s at l → take r (drop at s) ≡ l

@@ -1,5 +1,4 @@
 -- What the checks answer: "If the answer is an enum, a definition gives this paper's number and values for each of its cases."
-use Prim.Native.Nat.{ℕ}
 use Rattle.wire.specs.Found.{Found, good, fault, Reply, accepted, refused}
 use Rattle.wire.specs.declared.numbers.Number.{Number}
 use Rattle.wire.specs.declared.numbers.Number.the-variants as number
@@ -35,12 +34,12 @@ abbrev pub checkedBothOf : Reply Both → CheckedBoth
 checkedBothOf (accepted p) = both.Accepted (sectionsOf (p .graph)) (anchorSectionsOf (p .anchors))
 checkedBothOf (refused k file place) = both.Refused k file place
 
--- a number's fault
+-- a number's fault; of a value it is not asked
 abbrev pub anchorsRefused : Number → CheckedAnchors
 anchorsRefused (number.Value x c) = checked.Fault 0 (c .at)
 anchorsRefused (number.Fault k place) = checked.Fault k place
 
--- a fault of the graph file, and one of the anchor file
+-- a fault of the graph file, and one of the anchor file; of an accepted file they are not asked
 abbrev pub graphFileRefused : Checked → CheckedBoth
 graphFileRefused (graph.Accepted g) = both.Refused 0 graphFile (g .labels)
 graphFileRefused (graph.Fault k place) = both.Refused k graphFile place

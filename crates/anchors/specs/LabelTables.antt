@@ -1,5 +1,5 @@
 -- Where the labels lie in an accepted graph file: what the check of an anchor file goes by.
-use Prim.Native.Nat.{ℕ, _+_, _≤_}
+use Prim.Native.Nat.{ℕ, _+_}
 use mathlib.Core.Path.{_≡_}
 use mathlib.Core.List.{List, [], _∷_}
 use lib.ListN.{length, replicate}
@@ -41,7 +41,7 @@ unfoldable pub startsIn : List ℕ → List ℕ
 unfolding parsedOf contentOf startsOf
 startsIn s = startsOf (parsedOf s .labelsAt) (contentOf s .labels)
 
--- the graph file s is accepted, its n labels start at the place `at`
+-- the graph file s is accepted, and its n labels start at the place `at`
 pub record LabelsAt (s : List ℕ) (at n : ℕ) : Type 0 where
   pub accepted : Accepts s
   pub place : at ≡ parsedOf s .labelsAt

@@ -1,5 +1,4 @@
 -- A view as the code holds it.
-use Prim.Native.Nat.{ℕ}
 use Rattle.anchors.specs.View.{View}
 use Rattle.anchors.specs.declared.view.Viewed.{Viewed}
 

@@ -90,7 +90,7 @@ labels-suc zero sum s at h = absurd (omega arith)
 labels-suc (suc left) sum s at h = ap (λ (k : ℕ). number s at (labelOn k sum s at)) (sym (sub-one (suc left)))
 
 -- the letters that were counted are there
-letters-good : (x next : ℕ) (y : Found (List ℕ)) {v : ℕ} {c : Cursor} → lettersAnswer x next y ≡ Value v c
+pub letters-good : (x next : ℕ) (y : Found (List ℕ)) {v : ℕ} {c : Cursor} → lettersAnswer x next y ≡ Value v c
     → (l : List ℕ) × (y ≡ good l) × (next ≡ c .at)
 letters-good x next (good l) e = (l, refl, ap next-of e)
   where
@@ -99,7 +99,7 @@ letters-good x next (good l) e = (l, refl, ap next-of e)
     next-of (Fault k p) = 0
 letters-good x next (fault k p) e = let z : _≡_ {A = ℕ} 0 1 = cc in absurd (omega arith)
 
-letters-fault : (x next : ℕ) (y : Found (List ℕ)) {k p : ℕ} → lettersAnswer x next y ≡ Fault k p → y ≡ fault k p
+pub letters-fault : (x next : ℕ) (y : Found (List ℕ)) {k p : ℕ} → lettersAnswer x next y ≡ Fault k p → y ≡ fault k p
 letters-fault x next (good l) e = let z : _≡_ {A = ℕ} 0 1 = cc in absurd (omega arith)
 letters-fault x next (fault k p) e = cc
 

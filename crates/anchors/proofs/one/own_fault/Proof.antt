@@ -19,14 +19,24 @@ use borrow.Author.Needs.{needs}
 use Rattle.anchors.proofs.one.own_fault.Statement.{statement}
 use Rattle.anchors.proofs.one.own_fault.Tie as tie
 
+-- the function's entry, from later places
+abbrev from-vertex : tie.Else1 → tie.Start
+from-vertex k = k .before .before .before .before .before .before
+
+abbrev from-inside : tie.Else2 → tie.Start
+from-inside k = from-vertex (k .before .before .before .before)
+
+abbrev from-weight : tie.Else3 → tie.Start
+from-weight k = from-inside (k .before .before)
+
 vertex : (k : tie.Else1)
-    → isVertex (vertexCount (contentOf (k .before .before .before .before .before .before .args .graph .now))) (k .before .before .before .before .before .before .args .a .v) ≡ true
+    → isVertex (vertexCount (contentOf (from-vertex k .args .graph .now))) (from-vertex k .args .a .v) ≡ true
 vertex k =
     let s = k .before .before .before .before .before .before in
     ap (λ (n : ℕ). isVertex n (s .args .a .v)) (sym (s .pre .0 .count)) ∙ sym (k .before .is-vertex .ensures) ∙ not-false _ (k .if1 .left)
 
 spot : (k : tie.Else1)
-    → Finds (k .before .before .before .before .before .before .args .graph .now) (k .before .before .before .before .before .before .args .starts .now) (k .before .before .before .before .before .before .args .lengths .now) (k .before .before .before .before .before .before .args .a .v)
+    → Finds (from-vertex k .args .graph .now) (from-vertex k .args .starts .now) (from-vertex k .args .lengths .now) (from-vertex k .args .a .v)
 spot k =
     let s = k .before .before .before .before .before .before in
     let v = vertex-is _ _ (sym (k .before .is-vertex .ensures) ∙ not-false _ (k .if1 .left)) in
@@ -34,21 +44,21 @@ spot k =
 
 inside-told : (k : tie.After-is-inside)
     → k .is-inside .result
-    ≡ isInside (length (labelOf (contentOf (k .before .before .before .before .before .before .before .before .before .args .graph .now)) (k .before .before .before .before .before .before .before .before .before .args .a .v)))
-    (length (take (k .before .before .before .before .before .before .before .before .before .args .r) (drop (k .before .before .before .before .before .before .before .before .before .args .read) (k .before .before .before .before .before .before .before .before .before .args .file .now)))) (anchorOf (k .before .before .before .before .before .before .before .before .before .args .a))
+    ≡ isInside (length (labelOf (contentOf (from-vertex (k .before .before .before) .args .graph .now)) (from-vertex (k .before .before .before) .args .a .v)))
+    (length (take (from-vertex (k .before .before .before) .args .r) (drop (from-vertex (k .before .before .before) .args .read) (from-vertex (k .before .before .before) .args .file .now)))) (anchorOf (from-vertex (k .before .before .before) .args .a))
 inside-told k =
-    let a = k .before .before .before .before .before .before .before .before .before .args in
+    let a = from-vertex (k .before .before .before) .args in
     k .is-inside .ensures
-    ∙ ap₂ (λ (l r : ℕ). isInside l r (anchorOf (a .a))) (spot (k .before .before .before) .size) (sym (part-length (a .file .now) (a .read) (a .r) (k .before .before .before .before .before .before .before .before .before .pre .1)))
+    ∙ ap₂ (λ (l r : ℕ). isInside l r (anchorOf (a .a))) (spot (k .before .before .before) .size) (sym (part-length (a .file .now) (a .read) (a .r) (from-vertex (k .before .before .before) .pre .1)))
 
 inside : (k : tie.Else2)
-    → Inside (contentOf (k .before .before .before .before .before .before .before .before .before .before .args .graph .now)) (take (k .before .before .before .before .before .before .before .before .before .before .args .r) (drop (k .before .before .before .before .before .before .before .before .before .before .args .read) (k .before .before .before .before .before .before .before .before .before .before .args .file .now))) (anchorOf (k .before .before .before .before .before .before .before .before .before .before .args .a))
-inside k = let a = k .before .before .before .before .before .before .before .before .before .before .args in inside-is (contentOf (a .graph .now)) (take (a .r) (drop (a .read) (a .file .now))) (anchorOf (a .a)) (sym (inside-told (k .before)) ∙ not-false _ (k .if2 .left))
+    → Inside (contentOf (from-inside k .args .graph .now)) (take (from-inside k .args .r) (drop (from-inside k .args .read) (from-inside k .args .file .now))) (anchorOf (from-inside k .args .a))
+inside k = let a = from-inside k .args in inside-is (contentOf (a .graph .now)) (take (a .r) (drop (a .read) (a .file .now))) (anchorOf (a .a)) (sym (inside-told (k .before)) ∙ not-false _ (k .if2 .left))
 
 -- the anchor's letters are within the graph file
 start-within : (k : tie.Else2)
-    → (1 ≤ k .before .before .before .before .before .before .before .before .before .before .args .a .x)
-    × (getD (k .before .before .before .before .before .before .before .before .before .before .args .starts .now) (k .before .before .before .before .before .before .before .before .before .before .args .a .v - 1) 0 + (k .before .before .before .before .before .before .before .before .before .before .args .a .x - 1) + k .before .before .before .before .before .before .before .before .before .before .args .a .len ≤ length (k .before .before .before .before .before .before .before .before .before .before .args .graph .now))
+    → (1 ≤ from-inside k .args .a .x)
+    × (getD (from-inside k .args .starts .now) (from-inside k .args .a .v - 1) 0 + (from-inside k .args .a .x - 1) + from-inside k .args .a .len ≤ length (from-inside k .args .graph .now))
 start-within k =
     let i = inside k in
     let f = spot (k .before .before .before .before) in
@@ -57,22 +67,22 @@ start-within k =
 
 -- what the letters say, where nothing else is at fault
 own : (k : tie.Else3)
-    → ownFault (contentOf (k .before .before .before .before .before .before .before .before .before .before .before .before .args .graph .now)) (take (k .before .before .before .before .before .before .before .before .before .before .before .before .args .r) (drop (k .before .before .before .before .before .before .before .before .before .before .before .before .args .read) (k .before .before .before .before .before .before .before .before .before .before .before .before .args .file .now))) (anchorOf (k .before .before .before .before .before .before .before .before .before .before .before .before .args .a))
-    ≡ pick (lettersAgree (labelOf (contentOf (k .before .before .before .before .before .before .before .before .before .before .before .before .args .graph .now)) (k .before .before .before .before .before .before .before .before .before .before .before .before .args .a .v)) (take (k .before .before .before .before .before .before .before .before .before .before .before .before .args .r) (drop (k .before .before .before .before .before .before .before .before .before .before .before .before .args .read) (k .before .before .before .before .before .before .before .before .before .before .before .before .args .file .now))) (anchorOf (k .before .before .before .before .before .before .before .before .before .before .before .before .args .a))) 0 lettersDiffer
+    → ownFault (contentOf (from-weight k .args .graph .now)) (take (from-weight k .args .r) (drop (from-weight k .args .read) (from-weight k .args .file .now))) (anchorOf (from-weight k .args .a))
+    ≡ pick (lettersAgree (labelOf (contentOf (from-weight k .args .graph .now)) (from-weight k .args .a .v)) (take (from-weight k .args .r) (drop (from-weight k .args .read) (from-weight k .args .file .now))) (anchorOf (from-weight k .args .a))) 0 lettersDiffer
 own k =
-    let a = k .before .before .before .before .before .before .before .before .before .before .before .before .args in
+    let a = from-weight k .args in
     own-letters (contentOf (a .graph .now)) (take (a .r) (drop (a .read) (a .file .now))) (anchorOf (a .a)) (vertex (k .before .before .before .before .before .before))
     (sym (inside-told (k .before .before .before)) ∙ not-false _ (k .before .before .if2 .left)) (sym (k .before .range-fault .ensures) ∙ k .if3 .left)
 
 agreed : (k : tie.After-parts-agree)
     → k .parts-agree .result
-    ≡ lettersAgree (labelOf (contentOf (k .before .before .before .before .before .before .before .before .before .before .before .before .before .before .before .before .before .args .graph .now)) (k .before .before .before .before .before .before .before .before .before .before .before .before .before .before .before .before .before .args .a .v)) (take (k .before .before .before .before .before .before .before .before .before .before .before .before .before .before .before .before .before .args .r) (drop (k .before .before .before .before .before .before .before .before .before .before .before .before .before .before .before .before .before .args .read) (k .before .before .before .before .before .before .before .before .before .before .before .before .before .before .before .before .before .args .file .now))) (anchorOf (k .before .before .before .before .before .before .before .before .before .before .before .before .before .before .before .before .before .args .a))
+    ≡ lettersAgree (labelOf (contentOf (from-weight (k .before .before .before .before .before) .args .graph .now)) (from-weight (k .before .before .before .before .before) .args .a .v)) (take (from-weight (k .before .before .before .before .before) .args .r) (drop (from-weight (k .before .before .before .before .before) .args .read) (from-weight (k .before .before .before .before .before) .args .file .now))) (anchorOf (from-weight (k .before .before .before .before .before) .args .a))
 agreed k =
-    let a = k .before .before .before .before .before .before .before .before .before .before .before .before .before .before .before .before .before .args in
+    let a = from-weight (k .before .before .before .before .before) .args in
     let f = spot (k .before .before .before .before .before .before .before .before .before .before .before) in
     k .parts-agree .ensures
     ∙ sym (letters-lie (a .graph .now) (a .file .now) (contentOf (a .graph .now)) _ (getD (a .starts .now) (a .a .v - 1) 0) (a .read) (anchorOf (a .a)) (inside (k .before .before .before .before .before .before .before)) (lies-part _ _ _ (f .lies))
-    (ap (λ (n : ℕ). take n (drop (a .read) (a .file .now))) (part-length (a .file .now) (a .read) (a .r) (k .before .before .before .before .before .before .before .before .before .before .before .before .before .before .before .before .before .pre .1))))
+    (ap (λ (n : ℕ). take n (drop (a .read) (a .file .now))) (part-length (a .file .now) (a .read) (a .r) (from-weight (k .before .before .before .before .before) .pre .1))))
 
 is-vertex-requires : tie.Need-is-vertex-requires
 is-vertex-requires c κs = search needs
@@ -149,7 +159,7 @@ cast-parts-agree c = search needs
 parts-agree-requires : tie.Need-parts-agree-requires
 parts-agree-requires c κs =
     let k = c .before .before .before .before .before .before in
-    (omega (arith, start-within k), omega (arith, inside k .someC, inside k .someLength, inside k .inRead, part-length (c .before .before .before .before .before .before .before .before .before .before .before .before .before .before .before .before .args .file .now) (c .before .before .before .before .before .before .before .before .before .before .before .before .before .before .before .before .args .read) (c .before .before .before .before .before .before .before .before .before .before .before .before .before .before .before .before .args .r) (c .before .before .before .before .before .before .before .before .before .before .before .before .before .before .before .before .pre .1)))
+    (omega (arith, start-within k), omega (arith, inside k .someC, inside k .someLength, inside k .inRead, part-length (from-weight (c .before .before .before .before) .args .file .now) (from-weight (c .before .before .before .before) .args .read) (from-weight (c .before .before .before .before) .args .r) (from-weight (c .before .before .before .before) .pre .1)))
 
 returns-4 : tie.Need-returns-4
 returns-4 c = sym (own (c .before .before .before .before .before .before) ∙ ap (λ (b : Bool). pick b 0 lettersDiffer) (sym (agreed (c .before)) ∙ c .if4 .taken))

@@ -18,39 +18,49 @@ use borrow.Author.Needs.{needs}
 use Rattle.anchors.proofs.view.view.Statement.{statement}
 use Rattle.anchors.proofs.view.view.Tie as tie
 
+-- the function's entry, from later places
+abbrev from-both : tie.After-known-told → tie.Start
+from-both k = k .before .before .before .before .before .before
+
+abbrev from-range : tie.Else2 → tie.Start
+from-range k = from-both (k .before .before .before)
+
+abbrev from-got : tie.After-known-told2 → tie.Start
+from-got k = from-range (k .before .before .before .before)
+
 -- both files are accepted, with these sections
 told : (k : tie.After-known-told)
     → (p : Both)
-    × (bothReply (k .before .before .before .before .before .before .args .graph .now) (k .before .before .before .before .before .before .args .anchors .now) ≡ accepted p)
+    × (bothReply (from-both k .args .graph .now) (from-both k .args .anchors .now) ≡ accepted p)
     × (k .before .both .given .0 .0 ≡ sectionsOf (p .graph))
     × (k .before .both .given .0 .1 .0 ≡ anchorSectionsOf (p .anchors))
-told k = both-good (bothReply (k .before .before .before .before .before .before .args .graph .now) (k .before .before .before .before .before .before .args .anchors .now)) (sym (k .before .before .before .check-anchors .ensures) ∙ k .before .both .given .1)
+told k = both-good (bothReply (from-both k .args .graph .now) (from-both k .args .anchors .now)) (sym (k .before .before .before .check-anchors .ensures) ∙ k .before .both .given .1)
 
-labels : (k : tie.After-known-told) → LabelsAt (k .before .before .before .before .before .before .args .graph .now) (k .before .both .given .0 .0 .labels) (k .before .both .given .0 .0 .n)
+labels : (k : tie.After-known-told) → LabelsAt (from-both k .args .graph .now) (k .before .both .given .0 .0 .labels) (k .before .both .given .0 .0 .n)
 labels k =
     let t = told k in
-    let b = both-labels (k .before .before .before .before .before .before .args .graph .now) (k .before .before .before .before .before .before .args .anchors .now) (t .0) (t .1) in
+    let b = both-labels (from-both k .args .graph .now) (from-both k .args .anchors .now) (t .0) (t .1) in
     record { accepted = b .accepted; place = ap (λ (x : Sections). x .labels) (t .2) ∙ b .place; count = ap (λ (x : Sections). x .n) (t .2) ∙ b .count }
 
-range : (k : tie.Else2) → (1 ≤ k .before .before .before .before .before .before .before .before .before .args .number) × (k .before .before .before .before .before .before .before .before .before .args .number ≤ anchorCount (told (k .before .before .before) .0 .anchors .set))
+range : (k : tie.Else2) → (1 ≤ from-range k .args .number) × (from-range k .args .number ≤ anchorCount (told (k .before .before .before) .0 .anchors .set))
 range k = let n = ap (λ (x : AnchorSections). x .n) (told (k .before .before .before) .3) in (omega arith, omega arith)
 
 at-anchor : (k : tie.Else2)
-    → Seen (k .before .before .before .before .before .before .before .before .before .args .graph .now) (k .before .before .before .before .before .before .before .before .before .args .anchors .now) (told (k .before .before .before) .0) (k .before .before .before .before .before .before .before .before .before .args .number) (anchorNumbered (told (k .before .before .before) .0) (k .before .before .before .before .before .before .before .before .before .args .number))
+    → Seen (from-range k .args .graph .now) (from-range k .args .anchors .now) (told (k .before .before .before) .0) (from-range k .args .number) (anchorNumbered (told (k .before .before .before) .0) (from-range k .args .number))
 at-anchor k =
     let t = told (k .before .before .before) in
     let r = range k in
-    seen (k .before .before .before .before .before .before .before .before .before .args .graph .now) (k .before .before .before .before .before .before .before .before .before .args .anchors .now) (t .0) (k .before .before .before .before .before .before .before .before .before .args .number) (λ i. k .before .before .before .before .before .before .before .before .shared-slice-known .given i .fits) (t .1) (r .0) (r .1)
+    seen (from-range k .args .graph .now) (from-range k .args .anchors .now) (t .0) (from-range k .args .number) (λ i. k .before .before .before .before .before .before .before .before .shared-slice-known .given i .fits) (t .1) (r .0) (r .1)
 
 five : (k : tie.After-known-told2)
-    → Seen (k .before .before .before .before .before .before .before .before .before .before .before .before .before .args .graph .now) (k .before .before .before .before .before .before .before .before .before .before .before .before .before .args .anchors .now) (told (k .before .before .before .before .before .before .before) .0) (k .before .before .before .before .before .before .before .before .before .before .before .before .before .args .number) (anchorOf (k .before .got .given .0 .0))
+    → Seen (from-got k .args .graph .now) (from-got k .args .anchors .now) (told (k .before .before .before .before .before .before .before) .0) (from-got k .args .number) (anchorOf (k .before .got .given .0 .0))
 five k = seen-five (at-anchor (k .before .before .before .before)) _ (ap (λ (x : AnchorSections). x .anchors) (told (k .before .before .before .before .before .before .before) .3)) (sym (k .before .before .before .five-after .ensures) ∙ k .before .got .given .1)
 
 start-is : (k : tie.After-label-start) → k .label-start .result ≡ labelStart (told (k .before .before .before .before .before .before .before .before .before) .0) (k .before .before .before .got .given .0 .0 .v)
 start-is k =
     let t = told (k .before .before .before .before .before .before .before .before .before) in
     let v = five (k .before .before) .vertex in
-    k .label-start .ensures ∙ both-start (k .before .before .before .before .before .before .before .before .before .before .before .before .before .before .before .args .graph .now) (k .before .before .before .before .before .before .before .before .before .before .before .before .before .before .before .args .anchors .now) (t .0) (k .before .before .before .got .given .0 .0 .v) (t .1) (v .0) (v .1)
+    k .label-start .ensures ∙ both-start (from-got (k .before .before) .args .graph .now) (from-got (k .before .before) .args .anchors .now) (t .0) (k .before .before .before .got .given .0 .0 .v) (t .1) (v .0) (v .1)
 
 check-anchors-requires : tie.Need-check-anchors-requires
 check-anchors-requires c κs = search needs
@@ -75,7 +85,7 @@ empty-view-requires-2 c κs = search needs
 
 returns-2 : tie.Need-returns-2
 returns-2 c =
-    let a = c .before .before .before .before .before .before .before .before .args in
+    let a = from-both (c .before .before) .args in
     let t = told (c .before .before) in
     c .empty-view2 .ensures
     ∙ sym (ap viewedOf (ap (λ (x : Reply Both). viewOf x (a .number) (a .file)) (t .1) ∙ case-none (t .0) (a .number) (a .file) (omega arith)))
@@ -85,7 +95,7 @@ empty-view-requires-3 c κs = search needs
 
 returns-3 : tie.Need-returns-3
 returns-3 c =
-    let a = c .before .before .before .before .before .before .before .before .before .before .args in
+    let a = from-both (c .before .before .before .before) .args in
     let t = told (c .before .before .before .before) in
     let n = ap (λ (x : AnchorSections). x .n) (t .3) in
     c .empty-view3 .ensures
@@ -121,7 +131,7 @@ add-start c = record { fits = omega (arith, start-is (c .before), five (c .befor
 
 returns-5 : tie.Need-returns-5
 returns-5 c =
-    let a = c .before .before .before .before .before .before .before .before .before .before .before .before .before .before .before .before .args in
+    let a = from-got (c .before .before .before) .args in
     let t = told (c .before .before .before .before .before .before .before .before .before .before) in
     let r = range (c .before .before .before .before .before .before .before) in
     let f = five (c .before .before .before) in
@@ -141,7 +151,7 @@ add-start-2 c = record { fits = omega (arith, ap (λ (x : AnchorSections). x .re
 
 returns-6 : tie.Need-returns-6
 returns-6 c =
-    let a = c .before .before .before .before .before .before .before .before .before .before .before .before .before .before .before .before .before .args in
+    let a = from-got (c .before .before .before .before) .args in
     let t = told (c .before .before .before .before .before .before .before .before .before .before .before) in
     let r = range (c .before .before .before .before .before .before .before .before) in
     let f = five (c .before .before .before .before) in
@@ -155,7 +165,7 @@ empty-view-requires-5 c κs = search needs
 
 returns-7 : tie.Need-returns-7
 returns-7 c =
-    let a = c .before .before .before .before .before .before .before .before .before .before .before .before .before .before .before .before .args in
+    let a = from-got (c .before .before .before) .args in
     let t = told (c .before .before .before .before .before .before .before .before .before .before) in
     let r = range (c .before .before .before .before .before .before .before) in
     c .empty-view5 .ensures

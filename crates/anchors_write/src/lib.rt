@@ -1,0 +1,81 @@
+// The writer of an anchor file: it takes content and the graph file's bytes, checks both as the reader would, and writes the content's bytes.
+mod content; // content.rt: the first fault of the content
+mod bytes; // bytes.rt: how many bytes the encoding takes, and writing them
+
+use graph::Checked;
+use graph::check_graph;
+use wire::refusals::ANCHOR_FILE;
+use wire::refusals::GRAPH_FILE;
+use wire::refusals::OUT_OF_RANGE;
+use wire::refusals::SHORT_OUTPUT;
+use wire::refusals::SMALL_BUFFER;
+use wire::sizes::FULL_ANCHORS;
+use wire::sizes::FULL_LETTERS;
+use wire::sizes::MOST_FILE_BYTES;
+ghost use mathlib.Core.Path.{_≡_};
+ghost use Rattle.anchors_write.specs.Answer.{fullSizes, refusedWith, Written};
+
+// The refusal's number, file and place, 0 in all three for an acceptance, and how many bytes were written.
+pub struct WrittenAnchors {
+    pub number: u32,
+    pub file: u32,
+    pub place: u32,
+    pub bytes: u32,
+}
+
+// Whether each buffer has full size, by the buffers' lengths.
+fn full_buffers(letters: usize, anchors: usize) -> bool
+    ensures { λ r. ⌜ r ≡ fullSizes letters anchors ⌝ }
+{
+    if letters < FULL_LETTERS {
+        return false;
+    }
+    FULL_ANCHORS <= anchors
+}
+
+// A refusal's answer.
+fn refusal(number: u32, file: u32, place: u32) -> WrittenAnchors
+    ensures { λ r. ⌜ r ≡ refusedWith number file place ⌝ }
+{
+    WrittenAnchors {
+        number: number,
+        file: file,
+        place: place,
+        bytes: 0,
+    }
+}
+
+// Writes the anchor file of content over a graph file: r and N, and the buffers, of which only the used places are looked at.
+pub fn write_anchors(r: u32, n: u32, letters: &[u8], anchors: &[u32], graph: &[u8], out: &mut [u8]) -> WrittenAnchors
+    ensures { λ w. ⌜ Written
+        (record { r = r; n = n; buffers = record { letters = now (letters .entry); anchors = now (anchors .entry) } })
+        (now (graph .entry)) (now (out .entry)) (now (out .exit)) w ⌝ }
+{
+    if !full_buffers(letters.len(), anchors.len()) {
+        return refusal(SMALL_BUFFER, 0, 0);
+    }
+    let found = check_graph(graph);
+    match found {
+        Checked::Fault(number, place) => refusal(number, GRAPH_FILE, place as u32),
+        Checked::Accepted(s) => {
+            let fault = content::content_fault(graph, s.labels, s.n, r, n, letters, anchors);
+            if fault != 0 {
+                return refusal(fault, ANCHOR_FILE, 0);
+            }
+            let bytes = bytes::anchors_size(r, n, anchors);
+            if MOST_FILE_BYTES < bytes {
+                return refusal(OUT_OF_RANGE, ANCHOR_FILE, MOST_FILE_BYTES as u32);
+            }
+            if out.len() < bytes {
+                return refusal(SHORT_OUTPUT, 0, 0);
+            }
+            let written = bytes::put_anchors(r, n, letters, anchors, out);
+            WrittenAnchors {
+                number: 0,
+                file: 0,
+                place: 0,
+                bytes: written as u32,
+            }
+        }
+    }
+}
