@@ -24,7 +24,7 @@ checked-good : (x : Found Parsed) {g : Sections} → checkedOf x ≡ graph.Accep
 checked-good (good p) e = (p, refl, cc)
 checked-good (fault k place) e = let z : _≡_ {A = ℕ} 0 1 = cc in absurd (omega arith)
 
-checked-fault : (x : Found Parsed) {k place : ℕ} → checkedOf x ≡ graph.Fault k place → x ≡ fault k place
+pub checked-fault : (x : Found Parsed) {k place : ℕ} → checkedOf x ≡ graph.Fault k place → x ≡ fault k place
 checked-fault (good p) e = let z : _≡_ {A = ℕ} 0 1 = cc in absurd (omega arith)
 checked-fault (fault k place) e = cc
 

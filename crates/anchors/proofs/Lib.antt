@@ -20,3 +20,4 @@ pub mod EachLaws
 pub mod OverLaws
 pub mod BothLaws
 pub mod Viewing
+pub mod AnchorRooms

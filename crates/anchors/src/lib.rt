@@ -29,6 +29,9 @@ ghost use Rattle.anchors.specs.AnchorEntries.{bothReply};
 ghost use Rattle.anchors.specs.CheckedAnchors.{checkedAnchorsOf, checkedBothOf, anchorsRefused, graphFileRefused, anchorFileRefused};
 ghost use Rattle.anchors.specs.LabelTables.{LabelTables, contentOf};
 
+// The numbers of an anchor: v, x, c, length, weight.
+pub const PER_ANCHOR: usize = 5;
+
 // r and N of an accepted file, and the places where the read's letters and the anchors start.
 pub struct AnchorSections {
     pub r: u32,

@@ -57,7 +57,12 @@ fn roomy(letters: usize, anchors: usize) -> bool
 }
 
 // Reads the anchor file over the graph file into the buffers, where each has full size and both files are accepted; a refusal writes nothing.
-pub fn read_anchors(graph: &[u8], file: &[u8], letters: &mut [u8], anchors: &mut [u32]) -> AnchorsAnswer
+pub fn read_anchors(
+    graph: &[u8],
+    file: &[u8],
+    letters: &mut [u8],
+    anchors: &mut [u32],
+) -> AnchorsAnswer
     ensures { λ r. ⌜ Answered (now (graph .entry)) (now (file .entry))
         (record { letters = now (letters .entry); anchors = now (anchors .entry) })
         (record { letters = now (letters .exit); anchors = now (anchors .exit) })

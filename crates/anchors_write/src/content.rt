@@ -28,7 +28,13 @@ fn anchor_in(anchors: &[u32], i: usize) -> Five
     ensures { λ r. ⌜ anchorOf r ≡ anchorIn (now (anchors .entry)) i ⌝ }
 {
     let at = PER_ANCHOR * i;
-    Five { v: anchors[at], x: anchors[at + 1], c: anchors[at + 2], len: anchors[at + 3], weight: anchors[at + 4] }
+    Five {
+        v: anchors[at],
+        x: anchors[at + 1],
+        c: anchors[at + 2],
+        len: anchors[at + 3],
+        weight: anchors[at + 4],
+    }
 }
 
 // The anchors, each by itself and against the one before it. The graph is accepted and its labels are those that the tables find.
@@ -46,7 +52,13 @@ fn each_fault(
     requires { ⌜ (r ≤ length (now letters)) × (n ≤ mostAnchors) × (fullAnchors ≤ length (now anchors)) ⌝ }
     ensures { λ k. ⌜ k ≡ eachFault (contentOf (now (graph .entry))) (take r (now (letters .entry))) n 0 noAnchor (now (anchors .entry)) ⌝ }
 {
-    let mut last = Five { v: 0, x: 0, c: 0, len: 0, weight: 0 };
+    let mut last = Five {
+        v: 0,
+        x: 0,
+        c: 0,
+        len: 0,
+        weight: 0,
+    };
     let mut i: usize = 0;
     while i < n {
         let a = anchor_in(anchors, i);
@@ -93,5 +105,14 @@ pub fn content_fault(
     let mut starts = label_table();
     let mut lengths = label_table();
     label_places(graph, labels, vertices, &mut starts, &mut lengths);
-    each_fault(graph, vertices, &starts, &lengths, letters, r, anchors, wide(n))
+    each_fault(
+        graph,
+        vertices,
+        &starts,
+        &lengths,
+        letters,
+        r,
+        anchors,
+        wide(n),
+    )
 }

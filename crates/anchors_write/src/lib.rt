@@ -46,7 +46,14 @@ fn refusal(number: u32, file: u32, place: u32) -> WrittenAnchors
 }
 
 // Writes the anchor file of content over a graph file: r and N, and the buffers, of which only the used places are looked at.
-pub fn write_anchors(r: u32, n: u32, letters: &[u8], anchors: &[u32], graph: &[u8], out: &mut [u8]) -> WrittenAnchors
+pub fn write_anchors(
+    r: u32,
+    n: u32,
+    letters: &[u8],
+    anchors: &[u32],
+    graph: &[u8],
+    out: &mut [u8],
+) -> WrittenAnchors
     ensures { λ w. ⌜ Written
         (record { r = r; n = n; buffers = record { letters = now (letters .entry); anchors = now (anchors .entry) } })
         (now (graph .entry)) (now (out .entry)) (now (out .exit)) w ⌝ }

@@ -5,3 +5,5 @@ pub mod SweepLaws
 pub mod NamedLaws
 pub mod StepsThere
 pub mod Results
+pub mod WorkedSteps
+pub mod WorkedChains

@@ -41,7 +41,7 @@ module _ (g : Graph) (anchors : List Anchor) (S : Sound anchors) (some : 1 ≤ l
       (t .0, t .1, h, t .2)
 
   -- .. and a step is a link
-  link : (i j k : ℕ) → Within (length anchors) i → Within (length anchors) j → Step g (anchorAt anchors i) (anchorAt anchors j) k
+  pub link : (i j k : ℕ) → Within (length anchors) i → Within (length anchors) j → Step g (anchorAt anchors i) (anchorAt anchors j) k
       → (f i j ≡ suc k) × Link (stepLinks (length anchors) f) i j
   link i j k wi wj p = go (f i j) refl
     where

@@ -4,3 +4,4 @@ pub mod Chains
 pub mod Named
 pub mod Sweep
 pub mod ChainEntries
+pub mod WorkedAnchors

@@ -1,7 +1,7 @@
 -- One number of each anchor: its places, and the loops that write them.
 -- Assumes nothing.
-use Prim.Native.Nat.{ℕ, zero, suc, _+_, _-_, _*_, _≤_, _<_}
-use mathlib.Core.Path.{_≡_, refl, sym, ap, _∙_, subst}
+use Prim.Native.Nat.{ℕ, zero, suc, _+_, _≤_, _<_}
+use mathlib.Core.Path.{_≡_, refl, sym, ap, _∙_}
 use mathlib.Core.Logic.{_⊎_, inl, inr}
 use mathlib.Core.List.{List, [], _∷_, _++_, append-nil}
 use native.Mathlib.Nat.{eq-or-lt-of-le, le-of-suc-le-suc}
@@ -59,3 +59,10 @@ module _ (f : Anchor → ℕ) (numbers : List ℕ) where
   each-whole k old now l e =
       let n = each-length k in
       e ∙ ap (λ (t : List ℕ). eachOf f numbers k ++ t) (drop-of-length-le old {i = length (eachOf f numbers k)} (omega arith)) ∙ append-nil (eachOf f numbers k)
+
+  -- each stands at its place
+  pub each-front : (k j : ℕ) (old now : List ℕ) → now ≡ front (eachOf f numbers k) old → j < k → getD now j 0 ≡ f (anchorIn numbers j)
+  each-front k j old now e l =
+      ap (λ (t : List ℕ). getD t j 0) e
+      ∙ List·getD-append (eachOf f numbers k) (drop (length (eachOf f numbers k)) old) 0 j (omega (arith, each-length k))
+      ∙ each-at k j l

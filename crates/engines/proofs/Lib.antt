@@ -8,3 +8,8 @@ pub mod StepSays
 pub mod SettingLaws
 pub mod SweepHeld
 pub mod SweepTurns
+pub mod EndsHeld
+pub mod HeldLaws
+pub mod BackLaws
+pub mod WayLaws
+pub mod PlainLaws

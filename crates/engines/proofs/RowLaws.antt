@@ -1,7 +1,7 @@
 -- The row of a vertex, in a setting that holds a graph with its tables: its loops' bounds, and what its entries say.
 -- Assumes nothing.
-use Prim.Native.Nat.{ℕ, zero, suc, _+_, _-_, _*_, _≤_, _<_, _^_}
-use mathlib.Core.Path.{_≡_, refl, sym, ap, _∙_, subst}
+use Prim.Native.Nat.{ℕ, zero, suc, _+_, _-_, _*_, _≤_, _<_}
+use mathlib.Core.Path.{_≡_, refl, sym, ap, _∙_}
 use mathlib.Core.Logic.{_≢_}
 use mathlib.Core.List.{List, []}
 use native.Mathlib.Nat.{le-refl}
@@ -11,16 +11,16 @@ use lib.Seq.{getD-set-same, getD-set-other}
 use Rattle.wire.proofs.Rest.{rest-part}
 use Rattle.wire.specs.Sizes.{tableRow, pathRoom, mostLetters}
 use Rattle.rounds.specs.Rounds.{Within}
-use Rattle.rounds.specs.Place.{cellPlace, entryPlace}
+use Rattle.rounds.specs.Place.{cellPlace}
 use Rattle.rounds.specs.Table.{cell, entry}
 use Rattle.rounds.proofs.Upto.{within, within-none}
 use Rattle.graph.specs.Content.{Graph, vertexCount, pathCount}
 use Rattle.graph.specs.Good.{All, Next}
 use Rattle.anchors.specs.Anchors.{AnchorSet}
 use Rattle.cover.specs.Walks.{L}
-use Rattle.cover.specs.Cells.{vertex, IsReach}
+use Rattle.cover.specs.Cells.{vertex}
 use Rattle.cover.specs.CoverDistance.{pathAt, along}
-use Rattle.cover.specs.Row.{unknown, put, below, back, backs, rowFor, Says, IsRow}
+use Rattle.cover.specs.Row.{unknown, put, below, back, backs, Says, IsRow}
 use Rattle.cover.proofs.GoodLaws.{path-vertex, path-short}
 use Rattle.cover.proofs.ReachRounds.{reach-within}
 use Rattle.cover.proofs.RowLaws.{unknown-size, unknown-entry}

@@ -1,11 +1,11 @@
 -- The loops that make a row, turn by turn in the code's numbers.
 -- Assumes nothing.
 use Prim.Native.Nat.{ℕ, zero, suc, _+_, _-_, _≤_, _<_, _^_}
-use mathlib.Core.Path.{_≡_, refl, sym, ap, _∙_, subst}
-use mathlib.Core.List.{List, [], append-nil}
+use mathlib.Core.Path.{_≡_, refl, ap, _∙_}
+use mathlib.Core.List.{List, append-nil}
 use native.Mathlib.Omega.{arith}
 use native.Mathlib.Numerals.{add-one}
-use lib.ListN.{length, getD, set, take, drop, replicate, drop-of-length-le}
+use lib.ListN.{length, getD, set, take, replicate, drop-of-length-le}
 use Rattle.wire.specs.Lent.{padded, laid}
 use Rattle.rounds.specs.Rounds.{Within}
 use Rattle.rounds.specs.Kinds.{closer}

@@ -1,49 +1,34 @@
 -- What a setting that holds a graph and anchors gives the sweep: that its sums fit, that its steps are those of the anchors, and so that its rounds are the
 -- sweep's. Assumes nothing.
-use Prim.Native.Nat.{ℕ, zero, suc, _+_, _-_, _*_, _≤_, _<_, _^_, max}
-use mathlib.Core.Path.{_≡_, refl, sym, ap, _∙_, subst}
-use mathlib.Core.Logic.{_≢_, _⊎_, inl, inr, ite}
-use mathlib.Core.List.{List, [], map}
+use Prim.Native.Nat.{ℕ, zero, suc, _+_, _-_, _*_, _≤_, _<_}
+use mathlib.Core.Path.{_≡_, sym, ap, _∙_, subst}
+use mathlib.Core.Logic.{_⊎_, inl, inr}
+use mathlib.Core.List.{List}
 use native.Mathlib.Decide.{decLe, ℕ-discrete}
-use native.Mathlib.Nat.{le-refl}
 use native.Mathlib.Omega.{arith}
-use native.Mathlib.Numerals.{add-one, sub-one}
-use lib.ListN.{length, getD, set, length-set, List·getD-map}
-use lib.Seq.{getD-set-same, getD-set-other, ext-getD}
+use lib.ListN.{length, getD, set, length-set}
+use lib.Seq.{getD-set-same, getD-set-other}
 use Rattle.wire.specs.Sizes.{mostLetters, mostRead, mostWeight}
-use Rattle.rounds.specs.Rounds.{Within, sweep, Rounds}
-use Rattle.rounds.specs.Gather.{gather}
-use Rattle.rounds.specs.Rule.{Rule, value}
-use Rattle.rounds.specs.Kinds.{scoreRule}
-use Rattle.rounds.specs.Place.{entryPlace}
-use Rattle.rounds.specs.Table.{entry, cellStep, entryStep, vectorRound}
-use Rattle.rounds.specs.Loop.{Ends}
-use Rattle.rounds.proofs.Upto.{within, within-suc, within-last, total}
+use Rattle.rounds.specs.Rounds.{Within}
+use Rattle.rounds.specs.Rule.{value}
+use Rattle.rounds.specs.Table.{entry, cellStep, entryStep}
+use Rattle.rounds.proofs.Upto.{within, total}
 use Rattle.rounds.proofs.Fits.{max-order}
 use Rattle.rounds.proofs.Gather.{gather-one}
-use Rattle.rounds.proofs.InPlace.{Keeps, sweep-keeps, round-keeps}
-use Rattle.rounds.proofs.Counts.{rounds-mirror, settles-ends}
+use Rattle.rounds.proofs.InPlace.{Keeps}
 use Rattle.graph.specs.Content.{Graph, vertexCount}
 use Rattle.graph.specs.Good.{GoodGraph}
 use Rattle.anchors.specs.Anchors.{Anchor, AnchorSet, y, d}
 use Rattle.anchors.specs.AnchorRules.{noAnchor}
-use Rattle.anchors.specs.GoodAnchors.{GoodAnchor}
-use Rattle.cover.specs.Walks.{L, Goes}
-use Rattle.cover.specs.Cells.{IsClosed}
+use Rattle.anchors.specs.GoodAnchors.{GoodAnchor, GoodAnchors}
+use Rattle.cover.specs.Walks.{L}
 use Rattle.cover.proofs.GoodLaws.{all-at, labels-few, total-upto}
-use Rattle.cover.proofs.WalkLaws.{joined-to, goes-first}
-use Rattle.cover.proofs.GoesLaws.{goes-cover}
-use Rattle.cover.proofs.CoverLaws.{cover-at-least}
 use Rattle.chain.specs.Steps.{anchorAt, Before, Step}
-use Rattle.chain.specs.Sweep.{IsSteps, weights, stepLinks, sweepRound, Swept, none, rounds}
-use Rattle.chain.proofs.StepLaws.{Sound}
-use Rattle.chain.proofs.StepsThere.{Distances}
-use Rattle.chain.proofs.SweepLaws.{SweptWell, sweep-settles, swept-well}
 use Rattle.engines.specs.Pairs.{stepIn, stepFrom, EndsFit, RowFits, ScoresFit}
-use Rattle.engines.specs.Setting.{Setting, anchorOf, rowIn, stepOf, ruleOf, roundOf, Holds}
+use Rattle.engines.specs.Setting.{Setting, anchorOf, rowIn, stepOf, ruleOf, Holds}
 use Rattle.engines.specs.Sweeping.{weightsOf, ScoresLow}
 use Rattle.engines.proofs.PairLaws.{step-late}
-use Rattle.engines.proofs.RowLaws.{held-vertex, row-says, row-own, row-long}
+use Rattle.engines.proofs.RowLaws.{row-says, row-own, row-long}
 use Rattle.engines.proofs.StepSays.{RowSays, step-not, step-is, entry-fits}
 use Rattle.engines.proofs.EachLaws.{each-length, each-at}
 
@@ -66,26 +51,33 @@ pub record AnchorFits (n : ℕ) (A : Anchor) : Type 0 where
   pub last : y A ≤ mostRead
   pub end : d A ≤ mostRead
 
+good-anchor : {g : Graph} {a : AnchorSet} → GoodAnchors g a → (j : ℕ) → Within (length (a .anchors)) j → GoodAnchor g (a .read) (anchorAt (a .anchors) j)
+good-anchor {g} {a} A j w = all-at noAnchor _ (a .anchors) (A .each) (j - 1) (omega arith)
+
+-- an accepted anchor's do
+pub good-fits : {g : Graph} {a : AnchorSet} → GoodGraph g → GoodAnchors g a → (j : ℕ) → Within (length (a .anchors)) j → AnchorFits (vertexCount g) (anchorAt (a .anchors) j)
+unfolding L
+good-fits {g} {a} G As j w =
+    let A = good-anchor As j w in
+    let v : Within (vertexCount g) (anchorAt (a .anchors) j .v) = within (A .vertex .0) (A .vertex .1) in
+    let l = label-few G (anchorAt (a .anchors) j .v) v in
+    let r = As .fewRead in
+    record {
+      vertex = v;
+      x = within (A .someX) (omega (arith, A .inLabel, A .someLength));
+      c = within (A .someC) (omega (arith, A .inRead, A .someLength));
+      length = A .someLength;
+      weight = within (A .someWeight) (A .fewWeight);
+      last = omega (arith, A .inLabel);
+      end = omega (arith, A .inRead);
+    }
+
 module _ {s : Setting} {g : Graph} {a : AnchorSet} (H : Holds s g a) where
   pub held-anchor : (j : ℕ) → Within (s .count) j → GoodAnchor g (a .read) (anchorAt (a .anchors) j)
-  held-anchor j w = all-at noAnchor _ (a .anchors) (H .goodAnchors .each) (j - 1) (omega (arith, H .anchorsAre))
+  held-anchor j w = good-anchor (H .goodAnchors) j (within (w .low) (omega (arith, H .anchorsAre)))
 
   pub anchor-fits : (j : ℕ) → Within (s .count) j → AnchorFits (s .n) (anchorOf s j)
-  unfolding L
-  anchor-fits j w =
-      let A = held-anchor j w in
-      let v : Within (vertexCount g) (anchorAt (a .anchors) j .v) = within (A .vertex .0) (A .vertex .1) in
-      let l = label-few (H .good) (anchorAt (a .anchors) j .v) v in
-      let r = H .goodAnchors .fewRead in
-      rw (H .numbers j w) (record {
-        vertex = within (A .vertex .0) (omega (arith, A .vertex .1, H .vertices));
-        x = within (A .someX) (omega (arith, A .inLabel, A .someLength));
-        c = within (A .someC) (omega (arith, A .inRead, A .someLength));
-        length = A .someLength;
-        weight = within (A .someWeight) (A .fewWeight);
-        last = omega (arith, A .inLabel);
-        end = omega (arith, A .inRead);
-      })
+  anchor-fits j w = rw (H .numbers j w, ← H .vertices) (good-fits (H .good) (H .goodAnchors) j (within (w .low) (omega (arith, H .anchorsAre))))
 
   -- ---- the step
 

@@ -1,12 +1,11 @@
 -- The step that the engines compute between two anchors, by a row that says the distances: it is 0 exactly where the first does not come before the
 -- second, and the gap sum plus 1 where it does. Assumes nothing.
-use Prim.Native.Nat.{ℕ, zero, suc, _+_, _-_, _*_, _≤_, _<_}
+use Prim.Native.Nat.{ℕ, zero, suc, _+_, _-_, _≤_, _<_}
 use mathlib.Core.Path.{_≡_, refl, sym, ap, _∙_, subst}
 use mathlib.Core.Logic.{_≢_, _⊎_, inl, inr}
 use mathlib.Core.List.{List}
-use native.Mathlib.Decide.{ℕ-discrete, decLe, decLt}
+use native.Mathlib.Decide.{ℕ-discrete, decLt}
 use native.Mathlib.Omega.{arith}
-use lib.ListN.{getD}
 use Rattle.rounds.specs.Rounds.{Within}
 use Rattle.rounds.specs.Table.{entry}
 use Rattle.rounds.proofs.Upto.{within}

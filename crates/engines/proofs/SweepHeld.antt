@@ -1,8 +1,8 @@
 -- The rounds over a setting are the rounds of the sweep: they end, and leave each anchor the best score of all chains that end there. Assumes nothing.
 use Prim.Native.Nat.{ℕ, zero, suc, _+_, _-_, _≤_, _<_, max}
 use mathlib.Core.Path.{_≡_, refl, sym, ap, _∙_, subst}
-use mathlib.Core.Logic.{_≢_, _⊎_, inl, inr, ite}
-use mathlib.Core.List.{List, []}
+use mathlib.Core.Logic.{_⊎_, inl, inr, ite}
+use mathlib.Core.List.{List}
 use native.Mathlib.Decide.{decLe}
 use native.Mathlib.Nat.{le-refl}
 use native.Mathlib.Omega.{arith}
@@ -10,18 +10,17 @@ use lib.ListN.{length, getD, set, length-map, List·getD-map}
 use lib.Seq.{ext-getD}
 use Rattle.rounds.specs.Rounds.{Within, sweep, Rounds}
 use Rattle.rounds.specs.Gather.{gather}
-use Rattle.rounds.specs.Rule.{Rule, value}
+use Rattle.rounds.specs.Rule.{value}
 use Rattle.rounds.specs.Kinds.{scoreRule}
-use Rattle.rounds.specs.Table.{entry, cellStep, entryStep, vectorRound}
+use Rattle.rounds.specs.Table.{entry, cellStep, entryStep}
 use Rattle.rounds.specs.Loop.{Ends}
 use Rattle.rounds.proofs.Upto.{within, within-suc, within-last}
 use Rattle.rounds.proofs.Counts.{rounds-mirror}
-use Rattle.graph.specs.Content.{Graph, vertexCount}
+use Rattle.graph.specs.Content.{Graph}
 use Rattle.anchors.specs.Anchors.{Anchor, AnchorSet}
 use Rattle.anchors.specs.AnchorRules.{noAnchor}
 use Rattle.cover.specs.Walks.{L, Goes}
 use Rattle.cover.specs.Cells.{IsClosed}
-use Rattle.cover.specs.CoverDistance.{IsCover}
 use Rattle.cover.proofs.WalkLaws.{joined-to, goes-first}
 use Rattle.cover.proofs.GoesLaws.{goes-cover}
 use Rattle.cover.proofs.CoverLaws.{cover-at-least}

@@ -1,15 +1,14 @@
 -- The loops of the sweep, turn by turn in the code's numbers.
 -- Assumes nothing.
-use Prim.Native.Nat.{ℕ, _+_, _-_, _*_, _≤_, _<_}
-use mathlib.Core.Path.{_≡_, refl, sym, ap, _∙_, subst}
-use mathlib.Core.Logic.{_≢_, _⊎_, inl, inr}
+use Prim.Native.Nat.{ℕ, _+_, _-_, _≤_, _<_}
+use mathlib.Core.Path.{_≡_, ap, _∙_, subst}
+use mathlib.Core.Logic.{_≢_, inl, inr}
 use mathlib.Core.Bool.{Bool, true}
 use mathlib.Core.List.{List, [], _∷_}
 use native.Mathlib.Nat.{le-refl}
 use native.Mathlib.Omega.{arith}
 use lib.ListN.{length, getD, set}
 use Rattle.wire.specs.Sizes.{mostRead, mostWeight}
-use Rattle.rounds.specs.Rounds.{Within}
 use Rattle.rounds.specs.Rule.{value}
 use Rattle.rounds.specs.Place.{entryPlace}
 use Rattle.rounds.specs.Table.{entry, entryStep}

@@ -3,3 +3,5 @@ pub mod Pairs
 pub mod Setting
 pub mod Rowing
 pub mod Sweeping
+pub mod Returning
+pub mod Planning

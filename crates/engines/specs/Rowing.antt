@@ -1,9 +1,8 @@
 -- What the loops that make a row are given: that vertices have their entries and labels, and that the sums on the way fit.
-use Prim.Native.Nat.{ℕ, zero, suc, _+_, _*_, _≤_, _<_, _^_}
+use Prim.Native.Nat.{ℕ, zero, suc, _+_, _≤_, _<_, _^_}
 use mathlib.Core.List.{List, []}
 use lib.ListN.{length, getD}
 use Rattle.rounds.specs.Rounds.{Within}
-use Rattle.engines.specs.Pairs.{Ends}
 use Rattle.engines.specs.Setting.{Setting, belowIn}
 
 -- back along a path from position a: every sum on the way, plus 1, is a number of 32 bits

@@ -7,7 +7,7 @@ use lib.ListN.{length}
 use Rattle.wire.specs.Sizes.{mostWeight}
 use Rattle.rounds.specs.Rounds.{Within, Rounds}
 use Rattle.rounds.specs.Table.{entry}
-use Rattle.anchors.specs.Anchors.{Anchor, perAnchor, y, d}
+use Rattle.anchors.specs.Anchors.{Anchor, perAnchor}
 use Rattle.anchors.specs.AnchorEntries.{anchorIn}
 use Rattle.engines.specs.Setting.{Setting, anchorOf, rowIn, roundOf}
 

@@ -1,6 +1,6 @@
 // The row of one vertex v: for every other vertex the cover distance to v plus 1, and for v itself its closed walk plus 1; 0 where there is none.
 ghost use mathlib.Core.Path.{_≡_};
-ghost use Prim.Native.Nat.{_+_, _≤_, _<_, _^_};
+ghost use Prim.Native.Nat.{_+_, _<_, _^_};
 ghost use lib.ListN.{length};
 ghost use Rattle.rounds.specs.Rounds.{Within};
 ghost use Rattle.rounds.specs.Kinds.{closer};

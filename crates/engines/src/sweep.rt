@@ -5,7 +5,7 @@ ghost use Prim.Native.Nat.{_*_, _≤_};
 ghost use lib.ListN.{length};
 ghost use Rattle.wire.specs.Lent.{front};
 ghost use Rattle.rounds.specs.Loop.{Told};
-ghost use Rattle.anchors.specs.Anchors.{Anchor, perAnchor, y, d};
+ghost use Rattle.anchors.specs.Anchors.{perAnchor, y, d};
 ghost use Rattle.engines.specs.Setting.{Prepared, roundOf};
 ghost use Rattle.engines.specs.Sweeping.{settingOf, eachOf, NumbersFit, ScoresLow, SweptIn};
 

@@ -22,12 +22,12 @@ use Rattle.graph_read.specs.Filling.{items, oneNumber, oneLabel, onePath
 
 -- ---- a number, letters
 
-number-is : (s : List ℕ) (at x : ℕ) (c : Cursor) → numberAt s at ≡ Value x c → oneNumber s at ≡ record { content = x; next = c .at }
+pub number-is : (s : List ℕ) (at x : ℕ) (c : Cursor) → numberAt s at ≡ Value x c → oneNumber s at ≡ record { content = x; next = c .at }
 unfolding oneNumber
 number-is s at x c e = simp e
 
 -- letters that were found after a number are the file's bytes, and end within it
-letters-are : (s : List ℕ) (at len : ℕ) (c : Cursor) (l : List ℕ) → numberAt s at ≡ Value len c → lettersFrom len s (c .at) ≡ good l
+pub letters-are : (s : List ℕ) (at len : ℕ) (c : Cursor) (l : List ℕ) → numberAt s at ≡ Value len c → lettersFrom len s (c .at) ≡ good l
     → (l ≡ take len (drop (c .at) s)) × (c .at + len ≤ length s)
 letters-are s at len c l e f =
     let t = letters-read len s (c .at) l (number-within s at len c e .1) f in

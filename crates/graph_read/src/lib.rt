@@ -1,5 +1,5 @@
 // The reader of a graph file: it checks the file, and lays an accepted file's content into lent buffers.
-mod numbers; // numbers.rt: the numbers of an accepted section
+pub mod numbers; // numbers.rt: the numbers of an accepted section
 mod labels; // labels.rt: the labels' letters and lengths
 mod edges; // edges.rt: the edges' numbers
 mod paths; // paths.rt: the paths, each in its room, and their counts

@@ -17,7 +17,7 @@ use Rattle.graph_write.specs.Used.{numbersIn, labelsIn, edgesIn, pathsIn
 use Rattle.graph_write.specs.Faults.{first, lettersFault, labelsFault, edgesFault, verticesFault, pathsFault, contentFault}
 
 -- what is found by a fault and by content: the fault, or the content where there is none
-then : {A B : Type 0} (k : ℕ) (a : A) (go : A → Found B) → andThen (refuse k 0 (good a)) go ≡ refuse k 0 (go a)
+pub then : {A B : Type 0} (k : ℕ) (a : A) (go : A → Found B) → andThen (refuse k 0 (good a)) go ≡ refuse k 0 (go a)
 then k a go =
     elim (ℕ-discrete k 0) [
       | yes e ↦ simp (eq-eqb k 0 e)
@@ -25,7 +25,7 @@ then k a go =
     ]
 
 -- one fault after another
-twice : {A : Type 0} (j k : ℕ) (x : Found A) → refuse j 0 (refuse k 0 x) ≡ refuse (first j k) 0 x
+pub twice : {A : Type 0} (j k : ℕ) (x : Found A) → refuse j 0 (refuse k 0 x) ≡ refuse (first j k) 0 x
 twice j k x =
     elim (ℕ-discrete j 0) [
       | yes e ↦ simp (eq-eqb j 0 e)

@@ -20,7 +20,7 @@ ghost use Rattle.graph_write.specs.Faults.{lettersFault, labelsFault, ed
 ghost use Rattle.graph_write.specs.Search.{Passed, edgeIs};
 
 // A label's letters, from a place up to another.
-fn letters_fault(letters: &[u8], start: usize, end: usize) -> u32
+pub fn letters_fault(letters: &[u8], start: usize, end: usize) -> u32
     requires { ⌜ end ≤ length (now letters) ⌝ }
     ensures { λ r. ⌜ r ≡ lettersFault (end - start) (now (letters .entry)) start ⌝ }
 {

@@ -1,8 +1,8 @@
 // The writer of a graph file: it takes content, checks it as the reader would, and writes its bytes.
-mod content; // content.rt: the first fault of the labels, the edges and the paths
+pub mod content; // content.rt: the first fault of the labels, the edges and the paths
 mod cover; // cover.rt: every vertex is on a path
-mod room; // room.rt: how many bytes the encoding takes
-mod puts; // puts.rt: labels, numbers and paths written
+pub mod room; // room.rt: how many bytes the encoding takes
+pub mod puts; // puts.rt: labels, numbers and paths written
 
 use wire::numbers::group_count;
 use wire::numbers::put_number;

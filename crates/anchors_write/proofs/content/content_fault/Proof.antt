@@ -105,9 +105,10 @@ each-fault-requires c κs =
     let t = c .before .before .before .before .before in
     let e = t .label-places .ensures in
     let k = t .before .before .before .before .before in
-    let s = start (k .before .before .before) in
-    (tables-made (s .args .graph .now) _ _ _ _ _ _ (s .pre .0) (e .0) (e .1),
-    (omega (arith, few-read (k .before .before .before .before .before)), omega (arith, few-anchors k, c .wide2 .ensures), s .pre .1 .1))
+    let s = start (k .before .before .before) in (
+      tables-made (s .args .graph .now) _ _ _ _ _ _ (s .pre .0) (e .0) (e .1),
+      (omega (arith, few-read (k .before .before .before .before .before)), omega (arith, few-anchors k, c .wide2 .ensures), s .pre .1 .1),
+    )
 
 returns-4 : tie.Need-returns-4
 returns-4 c =

@@ -69,13 +69,14 @@ loop-less c = omega arith
 loop-again : tie.Need-loop-again Inv-loop μ-loop
 loop-again c =
     let l = c .before .before .before .before .before .before .loop in
-    let a = c .before .before .before .before .before .before .before .before .before .before .before .before .args in
-    (l .inv .0
-    ∙ each-more (contentOf (a .graph .now)) (take (a .r) (a .letters .now)) (a .n) (l .i) (anchorOf (l .last)) (a .anchors .now)
-    _ (omega arith) (c .before .before .before .before .anchor-in .ensures)
-    (sym (c .before .before .before .own-fault .ensures) ∙ c .before .before .if1 .left)
-    (sym (c .before .key-below .ensures) ∙ not-false _ (c .if2 .left)),
-    omega arith)
+    let a = c .before .before .before .before .before .before .before .before .before .before .before .before .args in (
+      l .inv .0
+          ∙ each-more (contentOf (a .graph .now)) (take (a .r) (a .letters .now)) (a .n) (l .i) (anchorOf (l .last)) (a .anchors .now)
+          _ (omega arith) (c .before .before .before .before .anchor-in .ensures)
+          (sym (c .before .before .before .own-fault .ensures) ∙ c .before .before .if1 .left)
+          (sym (c .before .key-below .ensures) ∙ not-false _ (c .if2 .left)),
+      omega arith,
+    )
 
 returns-3 : tie.Need-returns-3 Inv-loop μ-loop
 returns-3 c =

@@ -1,10 +1,7 @@
-use Prim.Native.Nat.{_-_, _<_}
-use mathlib.Core.Path.{_≡_, refl, sym, ap, _∙_}
+use mathlib.Core.Path.{_≡_, refl, sym, _∙_}
 use native.Mathlib.Omega.{arith}
-use lib.ListN.{length, getD}
-use Rattle.cover.specs.Row.{put}
-use Rattle.rounds.specs.Rounds.{Within}
-use Rattle.engines.specs.Setting.{belowIn, backIn}
+use lib.ListN.{length}
+use Rattle.engines.specs.Setting.{backIn}
 use Rattle.engines.specs.Rowing.{BackFits}
 use Rattle.engines.proofs.RowTurns.{back-end, back-turn, fits-vertex, fits-sum, fits-turn}
 use Rattle.engines.proofs.row.back_along.Statement.{statement}

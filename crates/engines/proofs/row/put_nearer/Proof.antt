@@ -1,4 +1,4 @@
-use mathlib.Core.Path.{ap, sym, _∙_}
+use mathlib.Core.Path.{ap}
 use lib.ListN.{set}
 use Rattle.cover.specs.Row.{put}
 use borrow.Author.Needs.{needs}

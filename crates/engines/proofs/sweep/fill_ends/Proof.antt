@@ -3,7 +3,7 @@ use mathlib.Core.Path.{_≡_, refl, subst}
 use native.Mathlib.Omega.{arith}
 use lib.ListN.{length, length-set}
 use Rattle.wire.specs.Lent.{front}
-use Rattle.anchors.specs.Anchors.{Anchor, y, d}
+use Rattle.anchors.specs.Anchors.{y, d}
 use Rattle.engines.specs.Sweeping.{eachOf}
 use Rattle.engines.proofs.EachLaws.{each-none, each-turn}
 use Rattle.engines.proofs.sweep.fill_ends.Statement.{statement}

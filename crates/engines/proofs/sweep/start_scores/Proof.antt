@@ -1,9 +1,8 @@
 use Prim.Native.Nat.{ℕ, _≤_, _-_}
-use mathlib.Core.Path.{_≡_, refl, _∙_, subst}
+use mathlib.Core.Path.{_≡_, refl, subst}
 use native.Mathlib.Omega.{arith}
 use lib.ListN.{length, length-set}
 use Rattle.wire.specs.Lent.{front}
-use Rattle.anchors.specs.Anchors.{Anchor}
 use Rattle.engines.specs.Sweeping.{eachOf}
 use Rattle.engines.proofs.EachLaws.{each-none, each-turn, each-whole}
 use Rattle.engines.proofs.sweep.start_scores.Statement.{statement}
