@@ -8,3 +8,6 @@ pub mod Closes
 pub mod Same
 pub mod Meaning
 pub mod Rooms
+pub mod Holding
+pub mod Tabling
+pub mod Accepted

@@ -5,3 +5,4 @@ pub mod Held
 pub mod Starting
 pub mod Closing
 pub mod Made
+pub mod Answer
