@@ -1,0 +1,52 @@
+use mathlib.Core.Logic.{⊎-elim}
+use Prim.Native.Nat.{_≤_, _-_}
+use native.Mathlib.Omega.{arith}
+use lib.ListN.{length}
+use borrow.Author.Needs.{needs}
+use Rattle.anchorio_cases.proofs.count_numbers.Statement.{statement}
+use Rattle.anchorio_cases.proofs.count_numbers.Tie as tie
+
+abbrev Inv-loop : tie.InvT-loop
+Inv-loop numbers x n₀ i₀ n i = (n ≤ i) × (i ≤ length numbers)
+
+abbrev μ-loop : tie.MeasureT-loop
+μ-loop numbers x n₀ i₀ n i = length numbers - i
+
+loop-holds : tie.Need-loop-holds Inv-loop μ-loop
+loop-holds c = omega arith
+
+mul-if1 : tie.Need-mul-if1 Inv-loop μ-loop
+mul-if1 c = omega arith
+
+shared-slice-read-if1 : tie.Need-shared-slice-read-if1 Inv-loop μ-loop
+shared-slice-read-if1 c = omega arith
+
+add-n : tie.Need-add-n Inv-loop μ-loop
+add-n c = omega arith
+
+add-i : tie.Need-add-i Inv-loop μ-loop
+add-i c = omega arith
+
+loop-less : tie.Need-loop-less Inv-loop μ-loop
+loop-less c = omega arith
+
+loop-again : tie.Need-loop-again Inv-loop μ-loop
+loop-again c = ⊎-elim (λ w. omega arith) (λ w. omega arith) (c .if1 .came)
+
+returns : tie.Need-returns Inv-loop μ-loop
+returns c = search needs
+
+pub count-numbers-spec : {M : Type 1} → statement M
+count-numbers-spec =
+    tie.close
+    (tie.spec
+    Inv-loop
+    μ-loop
+    loop-holds
+    mul-if1
+    shared-slice-read-if1
+    add-n
+    add-i
+    loop-less
+    loop-again
+    returns)

@@ -1,0 +1,91 @@
+use mathlib.Core.Path.{_≡_}
+use borrow.Author.Needs.{needs}
+use Prim.Native.Nat.{_≤_, _-_}
+use lib.ListN.{length}
+use Rattle.graphwrite_cases.proofs.set_large.Statement.{statement}
+use Rattle.graphwrite_cases.proofs.set_large.Tie as tie
+
+abbrev Inv-loop : tie.InvT-loop
+Inv-loop letters lengths₀ edges₀ paths₀ counts longer v₀ t8 lengths edges paths v = (v ≤ 1024) × (length lengths ≡ length lengths₀) × (length edges ≡ length edges₀) × (length paths ≡ length paths₀)
+
+abbrev μ-loop : tie.MeasureT-loop
+μ-loop letters lengths₀ edges₀ paths₀ counts longer v₀ t8 lengths edges paths v = 1024 - v
+
+set-every-requires : tie.Need-set-every-requires Inv-loop μ-loop
+set-every-requires c κs = search needs
+
+loop-holds : tie.Need-loop-holds Inv-loop μ-loop
+loop-holds c = search needs
+
+cast-set-number : tie.Need-cast-set-number Inv-loop μ-loop
+cast-set-number c = search needs
+
+length-of-requires : tie.Need-length-of-requires Inv-loop μ-loop
+length-of-requires c κs = search needs
+
+set-number-requires : tie.Need-set-number-requires Inv-loop μ-loop
+set-number-requires c κs = search needs
+
+set-step-requires : tie.Need-set-step-requires Inv-loop μ-loop
+set-step-requires c κs = search needs
+
+set-stop-requires : tie.Need-set-stop-requires Inv-loop μ-loop
+set-stop-requires c κs = search needs
+
+add-v : tie.Need-add-v Inv-loop μ-loop
+add-v c = search needs
+
+loop-less : tie.Need-loop-less Inv-loop μ-loop
+loop-less c = search needs
+
+loop-again : tie.Need-loop-again Inv-loop μ-loop
+loop-again c = search needs
+
+slice-aggregate-set-numbers : tie.Need-slice-aggregate-set-numbers Inv-loop μ-loop
+slice-aggregate-set-numbers c = search needs
+
+set-numbers-requires : tie.Need-set-numbers-requires Inv-loop μ-loop
+set-numbers-requires c κs = search needs
+
+same-length : tie.Need-same-length Inv-loop μ-loop
+same-length c = search needs
+
+same-length-2 : tie.Need-same-length-2 Inv-loop μ-loop
+same-length-2 c = search needs
+
+same-length-3 : tie.Need-same-length-3 Inv-loop μ-loop
+same-length-3 c = search needs
+
+same-length-4 : tie.Need-same-length-4 Inv-loop μ-loop
+same-length-4 c = search needs
+
+same-length-5 : tie.Need-same-length-5 Inv-loop μ-loop
+same-length-5 c = search needs
+
+returns : tie.Need-returns Inv-loop μ-loop
+returns c = search needs
+
+pub set-large-spec : {M : Type 1} → statement M
+set-large-spec =
+    tie.close
+    (tie.spec
+    Inv-loop
+    μ-loop
+    set-every-requires
+    loop-holds
+    cast-set-number
+    length-of-requires
+    set-number-requires
+    set-step-requires
+    set-stop-requires
+    add-v
+    loop-less
+    loop-again
+    slice-aggregate-set-numbers
+    set-numbers-requires
+    same-length
+    same-length-2
+    same-length-3
+    same-length-4
+    same-length-5
+    returns)
