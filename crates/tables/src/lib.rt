@@ -39,25 +39,25 @@ pub struct TablesAnswer {
 }
 
 // Rooms of zeros, of the full sizes of letters, lengths, edges, paths and tables, and counts; and one for the edges' list.
-fn letter_zeros() -> [u8; 32768]
+pub fn letter_zeros() -> [u8; 32768]
     ensures { λ r. ⌜ r ≡ zeros 32768 ⌝ }
 {
     [0u8; 32768]
 }
 
-fn number_zeros() -> [u32; 8192]
+pub fn number_zeros() -> [u32; 8192]
     ensures { λ r. ⌜ r ≡ zeros 8192 ⌝ }
 {
     [0u32; 8192]
 }
 
-fn path_zeros() -> [u32; 16]
+pub fn path_zeros() -> [u32; 16]
     ensures { λ r. ⌜ r ≡ zeros 16 ⌝ }
 {
     [0u32; 16]
 }
 
-fn vertex_zeros() -> [u32; 1024]
+pub fn vertex_zeros() -> [u32; 1024]
     ensures { λ r. ⌜ r ≡ zeros 1024 ⌝ }
 {
     [0u32; 1024]
@@ -69,7 +69,7 @@ fn edge_zeros() -> [u32; 4096]
     [0u32; 4096]
 }
 
-fn cell_zeros() -> [u32; 16384]
+pub fn cell_zeros() -> [u32; 16384]
     ensures { λ r. ⌜ r ≡ zeros 16384 ⌝ }
 {
     [0u32; 16384]

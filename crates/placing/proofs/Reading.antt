@@ -1,0 +1,152 @@
+-- What the entries have from the two readers: the reply, and the content of accepted files. Assumes nothing.
+use Prim.Native.Nat.{ℕ, zero, suc, _+_, _-_, _*_, _≤_, _<_}
+use mathlib.Core.Path.{_≡_, refl, sym, ap, _∙_, subst}
+use mathlib.Core.Logic.{_⊎_, inl, inr, ⊎-elim}
+use mathlib.Core.List.{List, [], _∷_}
+use mathlib.Core.Bool.{true}
+use native.Mathlib.Omega.{arith}
+use lib.ListN.{length, getD}
+use borrow.Author.Tests.{le-leb}
+use Rattle.wire.specs.Found.{Reply, good, accepted, refused}
+use Rattle.wire.specs.Lent.{laid}
+use Rattle.wire.specs.Sizes.{mostAnchors, fullLetters, fullAnchors}
+use Rattle.wire.proofs.NumberLaws.{Bytes}
+use Rattle.wire.proofs.Laying.{laid-at, length-laid}
+use Rattle.rounds.specs.Rounds.{Within}
+use Rattle.rounds.proofs.Upto.{within}
+use Rattle.graph.specs.Content.{Graph}
+use Rattle.graph.specs.Reading.{Parsed, graphOf}
+use Rattle.graph.specs.Entries.{Buffers, roomy, readReply}
+use Rattle.graph_read.specs.Answer as reader
+use Rattle.graph_read.specs.declared.GraphAnswer.{GraphAnswer}
+use Rattle.graph_read.proofs.Replying.{Full}
+use Rattle.graph_read.proofs.Outcome.{Accepts}
+use Rattle.anchors.specs.Anchors.{Anchor, AnchorSet, perAnchor, anchorNumbers}
+use Rattle.anchors.specs.AnchorRules.{noAnchor}
+use Rattle.anchors.specs.GoodAnchors.{GoodAnchors}
+use Rattle.anchors.specs.AnchorEntries.{Both, bothReply, anchorIn, AnchorBuffers, roomyAnchors, readAnchorsReply, filledAnchors}
+use Rattle.anchors.proofs.AnchorFaults.{both-refused}
+use Rattle.anchors.proofs.BothFiles.{both-taken, both-good}
+use Rattle.anchors_read.specs.Answer.{answerOf, Answered}
+use Rattle.anchors_read.specs.declared.AnchorsAnswer.{AnchorsAnswer}
+use Rattle.chain.specs.Steps.{anchorAt}
+use Rattle.tables.proofs.Accepted.{full-roomy, accepted-holds, accepted-paths}
+use Rattle.placing.specs.Lying.{AnchorsLie, Given}
+
+-- ---- the anchors as they lie
+
+numbers-in : (l : List Anchor) (i : ℕ) → i < length l → anchorIn (anchorNumbers l) i ≡ getD l i noAnchor
+unfolding anchorNumbers
+numbers-in [] i h = absurd (omega arith)
+numbers-in (a ∷ l) zero h = refl
+numbers-in (a ∷ l) (suc i) h =
+    let e0 : perAnchor * suc i ≡ suc (suc (suc (suc (suc (perAnchor * i))))) = omega arith in
+    let e1 : perAnchor * suc i + 1 ≡ suc (suc (suc (suc (suc (perAnchor * i + 1))))) = omega arith in
+    let e2 : perAnchor * suc i + 2 ≡ suc (suc (suc (suc (suc (perAnchor * i + 2))))) = omega arith in
+    let e3 : perAnchor * suc i + 3 ≡ suc (suc (suc (suc (suc (perAnchor * i + 3))))) = omega arith in
+    let e4 : perAnchor * suc i + 4 ≡ suc (suc (suc (suc (suc (perAnchor * i + 4))))) = omega arith in
+    rw (e1, e2, e3, e4, e0) (numbers-in l i (omega arith))
+
+numbers-long : (l : List Anchor) → length (anchorNumbers l) ≡ perAnchor * length l
+unfolding anchorNumbers
+numbers-long [] = refl
+numbers-long (a ∷ l) = omega (arith, numbers-long l)
+
+module _ (l : List Anchor) (old : List ℕ) (few : length l ≤ mostAnchors) where
+  fit : length (anchorNumbers l) ≤ fullAnchors
+  fit = omega (arith, numbers-long l)
+
+  place : (q : ℕ) → q < fullAnchors → getD (laid fullAnchors (anchorNumbers l) old) q 0 ≡ getD (anchorNumbers l) q 0
+  place = laid-at fullAnchors (anchorNumbers l) old fit
+
+  -- each anchor's numbers are in the buffer
+  pub laid-anchor : (j : ℕ) → Within (length l) j → anchorIn (laid fullAnchors (anchorNumbers l) old) (j - 1) ≡ anchorAt l j
+  laid-anchor j w =
+      (λ i. record {
+        v = place (perAnchor * (j - 1)) (omega arith) i;
+        x = place (perAnchor * (j - 1) + 1) (omega arith) i;
+        c = place (perAnchor * (j - 1) + 2) (omega arith) i;
+        len = place (perAnchor * (j - 1) + 3) (omega arith) i;
+        weight = place (perAnchor * (j - 1) + 4) (omega arith) i;
+      })
+      ∙ numbers-in l (j - 1) (omega arith)
+
+  pub laid-long : fullAnchors ≤ length old → perAnchor * length l ≤ length (laid fullAnchors (anchorNumbers l) old)
+  laid-long h = omega (arith, length-laid fullAnchors (anchorNumbers l) old fit h)
+
+-- ---- the reader of both files
+
+-- buffers of full size are roomy
+pub full-anchors : (b : AnchorBuffers) → fullLetters ≤ length (b .letters) → fullAnchors ≤ length (b .anchors) → roomyAnchors b ≡ true
+unfolding roomyAnchors
+full-anchors b l a = simp (le-leb fullLetters (length (b .letters)) l, le-leb fullAnchors (length (b .anchors)) a)
+
+-- both files are accepted, and the buffers hold the anchors
+pub record BothAccepted (graph file : List ℕ) (b after : AnchorBuffers) (r : AnchorsAnswer) : Type 0 where
+  pub taken : Both
+  pub found : bothReply graph file ≡ accepted taken
+  pub content : after ≡ filledAnchors (taken .anchors .set) b
+  pub answer : r ≡ answerOf (accepted taken)
+
+module _ (graph file : List ℕ) (b after : AnchorBuffers) (r : AnchorsAnswer) (full : roomyAnchors b ≡ true) (A : Answered graph file b after r) where
+  same-reply : readAnchorsReply graph file b ≡ bothReply graph file
+  unfolding readAnchorsReply
+  same-reply = rw full
+
+  refused-with : (k f place : ℕ) → bothReply graph file ≡ refused k f place → r ≡ answerOf (refused k f place)
+  refused-with k f place e = A .answer ∙ ap answerOf (same-reply ∙ e)
+
+  by-reply : (x : Reply Both) → bothReply graph file ≡ x
+      → BothAccepted graph file b after r ⊎ ((1 ≤ r .number) × (bothReply graph file ≡ refused (r .number) (r .file) (r .place)))
+  by-reply (accepted p) e = inl (record {
+    taken = p;
+    found = e;
+    content = A .buffers ∙ rw (same-reply ∙ e);
+    answer = A .answer ∙ ap answerOf (same-reply ∙ e);
+  })
+  by-reply (refused k f place) e =
+      let q = refused-with k f place e in
+      inr (rw q (both-refused graph file k f place e .some), e ∙ rw q)
+
+  -- number 0: both are accepted
+  pub both-zero : r .number ≡ 0 → BothAccepted graph file b after r
+  both-zero z = ⊎-elim (λ t. t) (λ t. absurd (omega (arith, t .0))) (by-reply (bothReply graph file) refl)
+
+  -- any other number: refused so
+  pub both-some : (r .number ≡ 0 → ⊥) → bothReply graph file ≡ refused (r .number) (r .file) (r .place)
+  both-some n = ⊎-elim (λ t. absurd (n (ap (λ (q : AnchorsAnswer). q .number) (t .answer)))) (λ t. t .1) (by-reply (bothReply graph file) refl)
+
+-- ---- the reader of the graph file
+
+unfoldable graph-accepts : (graph : List ℕ) (l after : Buffers) (r : GraphAnswer) (p : Parsed) → graphOf graph ≡ good p → roomy l ≡ true → reader.Answered graph l after r
+    → Accepts graph l after r
+unfolding readReply
+graph-accepts graph l after r p e h A =
+    let reply : readReply graph l ≡ accepted p = rw (h, e) in
+    record { parsed = p; found = e; full = h; content = A .buffers ∙ rw reply; answer = A .answer ∙ rw reply }
+
+-- accepted files lie in the buffers, by the numbers of the readers' answers
+module _ (graph file : List ℕ) (b c : AnchorBuffers) (r : AnchorsAnswer) (B : BothAccepted graph file b c r) (room : fullAnchors ≤ length (b .anchors))
+    (l after : Buffers) (q : GraphAnswer) (bytes : Bytes graph) (full : Full l) (A : reader.Answered graph l after q) where
+  pub given-read : Given (B .taken .graph .graph) (B .taken .anchors .set) (q .vertices) (q .edges) (q .paths) (r .letters) (r .anchors)
+      (after .lengths) (after .edges) (after .paths) (after .counts) (c .anchors)
+  unfolding filledAnchors graph-accepts
+  given-read =
+      let p = B .taken in
+      let t = both-taken graph file p (B .found) in
+      let G = both-good graph file p t in
+      let K = graph-accepts graph l after q (p .graph) (t .graphIs) (full-roomy l full) A in
+      let n : length (p .anchors .set .anchors) ≡ r .anchors = sym (ap (λ (k : AnchorsAnswer). k .anchors) (B .answer)) in
+      let few = G .1 .fewAnchors in
+      let e : c .anchors ≡ laid fullAnchors (anchorNumbers (p .anchors .set .anchors)) (b .anchors) = ap (λ (k : AnchorBuffers). k .anchors) (B .content) in
+      record {
+        content = accepted-holds graph l after q bytes full K;
+        pathsAre = sym (accepted-paths graph l after q K);
+        anchors = record {
+          good = G .1;
+          letters = sym (ap (λ (k : AnchorsAnswer). k .letters) (B .answer));
+          anchorsAre = n;
+          room = rw (e, ← n) (laid-long (p .anchors .set .anchors) (b .anchors) few room);
+          each = λ j w. rw e (laid-anchor (p .anchors .set .anchors) (b .anchors) few j (within (w .low) (omega (arith, w .high, n))));
+        };
+      }
