@@ -16,8 +16,8 @@ use Rattle.rounds.proofs.Fits.{max-order}
 use Rattle.rounds.proofs.Gather.{gather-first, gather-each, gather-one}
 use Rattle.graph.specs.Content.{Graph}
 use Rattle.anchors.specs.Anchors.{AnchorSet}
-use Rattle.tables.specs.Lists.{IsNext, Listed}
-use Rattle.tables.proofs.Linking.{Walking, Passes, walk-on, walk-turn}
+use Rattle.table_rows.specs.Lists.{IsNext, Listed}
+use Rattle.table_rows.proofs.Linking.{Walking, Passes, walk-on, walk-turn}
 use Rattle.chain.specs.Steps.{anchorAt, Step}
 use Rattle.chain.specs.Chains.{IsBest}
 use Rattle.chain.proofs.BestScores.{follows-best}

@@ -18,8 +18,8 @@ use Rattle.cover.specs.CoverDistance.{pathAt}
 use Rattle.cover.proofs.GoodLaws.{all-at}
 use Rattle.cover.specs.TableEntries.{Tables, IsTables}
 use Rattle.cover.proofs.TablesThere.{reach-cells, distance-cells}
-use Rattle.tables.specs.Held as held
-use Rattle.tables.specs.Held.{pathIn}
+use Rattle.table_rounds.specs.Held as held
+use Rattle.table_rounds.specs.Held.{pathIn}
 use Rattle.chain.specs.Steps.{anchorAt}
 use Rattle.engines.specs.Setting.{Holds, Prepared, pathFrom}
 use Rattle.engines.specs.Sweeping.{settingOf, eachOf, NumbersFit}

@@ -15,7 +15,7 @@ use Rattle.cover.specs.Walks.{L}
 use Rattle.cover.specs.Cells.{IsClosed}
 use Rattle.cover.specs.CoverDistance.{pathAt}
 use Rattle.cover.specs.Finished.{ReachTable, DistanceTable}
-use Rattle.tables.specs.Held as held
+use Rattle.table_rounds.specs.Held as held
 use Rattle.chain.specs.Steps.{anchorAt}
 use Rattle.engines.specs.Setting.{lengthIn, pathFrom}
 

@@ -17,7 +17,7 @@ use Rattle.graph_read.specs.declared.GraphAnswer.{GraphAnswer}
 use Rattle.graph_read.proofs.Replying.{Full}
 use Rattle.graph_read.proofs.Outcome.{Accepts}
 use Rattle.cover.specs.TableEntries.{TableBuffers, roomyTables, tablesReply}
-use Rattle.tables.specs.Held.{Holds}
+use Rattle.table_rounds.specs.Held.{Holds}
 use Rattle.tables.proofs.Meaning.{holds-on}
 use Rattle.tables.proofs.Holding.{holds-filled}
 

@@ -19,7 +19,7 @@ use Rattle.cover.specs.Cells.{vertex}
 use Rattle.cover.specs.CoverDistance.{pathAt}
 use Rattle.cover.proofs.GoodLaws.{path-short}
 use Rattle.cover.proofs.ContentLaws.{label-at, from-at, to-at, count-at, vertex-at}
-use Rattle.tables.specs.Held.{pathIn, Holds}
+use Rattle.table_rounds.specs.Held.{pathIn, Holds}
 
 edge-long : (es : List Edge) → length (edgeNumbers es) ≡ 2 * length es
 unfolding edgeNumbers

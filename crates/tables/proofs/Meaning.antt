@@ -35,10 +35,11 @@ use Rattle.cover.proofs.ReachRounds.{reach-settles, reach-within}
 use Rattle.cover.proofs.DistanceRounds.{distance-settles}
 use Rattle.cover.proofs.ClosedRounds.{walks-settle, closed-is}
 use Rattle.cover.proofs.TablesThere.{walk-begins, walk-keeps, tables-made}
-use Rattle.tables.specs.Lists.{Listed}
-use Rattle.tables.specs.Held.{source, target, labelLength, pathIn, Held, Linked, PathsHeld, Holds, heldLinks, heldLevels, raise, raiseRound, near, nearRow, nearRound, Fitting, Settling}
-use Rattle.tables.specs.Closing.{sixteenStart, backBy, ClosedBy, Closable}
-use Rattle.tables.proofs.Starts.{table-ext, homesIn}
+use Rattle.table_rows.specs.Lists.{Listed}
+use Rattle.table_rows.specs.HeldEdges.{source, target, Held, Linked}
+use Rattle.table_rounds.specs.Held.{labelLength, pathIn, PathsHeld, Holds, heldLinks, heldLevels, raise, raiseRound, near, nearRow, nearRound, Fitting, Settling}
+use Rattle.table_rounds.specs.Closing.{sixteenStart, backBy, ClosedBy, Closable}
+use Rattle.table_rounds.proofs.Starts.{table-ext, homesIn}
 use Rattle.tables.proofs.Same.{Alike, gather-same, row-alike}
 
 -- the start of the reach table

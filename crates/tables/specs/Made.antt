@@ -4,7 +4,7 @@ use mathlib.Core.List.{List}
 use lib.ListN.{replicate}
 use Rattle.graph.specs.Content.{Graph}
 use Rattle.cover.specs.TableEntries.{Tables}
-use Rattle.tables.specs.Held.{Holds}
+use Rattle.table_rounds.specs.Held.{Holds}
 use Rattle.tables.specs.declared.TableRounds.{TableRounds}
 
 -- n zeros

@@ -1,11 +1,12 @@
 // The tables of a graph: reach, distance and closed walks.
-pub mod rows; // rows.rt: a row of sixteen cells
-pub mod targets; // targets.rt: edges listed by the vertex that they go into
-pub mod reach; // reach.rt: the reach table
-pub mod distance; // distance.rt: the distance table
-pub mod closed; // closed.rt: closed walks
-
 use graph_read::read_graph;
+use table_rounds::closed::closed_walks;
+use table_rounds::distance::finish_distance;
+use table_rounds::distance::settle_distance;
+use table_rounds::distance::start_distance;
+use table_rounds::reach::settle_reach;
+use table_rounds::reach::start_reach;
+use table_rows::targets::list_by_target;
 use wire::lent::zero_rest_u32;
 use wire::refusals::SMALL_BUFFER;
 use wire::sizes::FULL_CLOSED;
@@ -17,7 +18,8 @@ ghost use lib.ListN.{length, getD};
 ghost use Rattle.wire.specs.Sizes.{tableRow, fullTable, fullClosed};
 ghost use Rattle.graph.specs.Content.{Graph, pathCount};
 ghost use Rattle.cover.specs.TableEntries.{IsTables, TableBuffers};
-ghost use Rattle.tables.specs.Held.{Holds, Linked};
+ghost use Rattle.table_rows.specs.HeldEdges.{Linked};
+ghost use Rattle.table_rounds.specs.Held.{Holds};
 ghost use Rattle.tables.specs.Made.{zeros, Content, made};
 ghost use Rattle.tables.specs.Answer.{refusalOf, Tabled, Answered, roomFor};
 
@@ -97,12 +99,12 @@ fn fill_tables(
     ensures { λ r. ⌜ ((g : Graph) → Holds g (length (now (heads .entry))) (length (now (nexts .entry))) (now (lengths .entry)) (now (edges .entry)) (now (paths .entry)) (now (counts .entry)) → IsTables g (made (now (reach .exit)) (now (distance .exit)) (now (closed .exit)) r)) ⌝ }
 {
     let n = heads.len();
-    reach::start_reach(reach, paths, counts, n);
-    let a = reach::settle_reach(reach, edges, heads, nexts);
-    distance::start_distance(distance, reach, paths, n);
-    let b = distance::settle_distance(distance, reach, lengths, edges, heads, nexts);
-    distance::finish_distance(distance);
-    closed::closed_walks(closed, scratch, level, lengths, edges, heads, nexts);
+    start_reach(reach, paths, counts, n);
+    let a = settle_reach(reach, edges, heads, nexts);
+    start_distance(distance, reach, paths, n);
+    let b = settle_distance(distance, reach, lengths, edges, heads, nexts);
+    finish_distance(distance);
+    closed_walks(closed, scratch, level, lengths, edges, heads, nexts);
     TableRounds {
         reach: a,
         distance: b,
@@ -131,7 +133,7 @@ fn list_and_fill(
     requires { ⌜ ((q : ℕ) → getD (now level) q 0 ≡ 0) ⌝ }
     ensures { λ r. ⌜ ((g : Graph) → Holds g (length (now (heads .entry))) (length (now (nexts .entry))) (now (lengths .entry)) (now (edges .entry)) (now (paths .entry)) (now (counts .entry)) → IsTables g (made (now (reach .exit)) (now (distance .exit)) (now (closed .exit)) r)) ⌝ }
 {
-    targets::list_by_target(edges, heads, nexts);
+    list_by_target(edges, heads, nexts);
     fill_tables(
         lengths,
         edges,

@@ -3,9 +3,9 @@ use Rattle.rounds.specs.Rounds.{Rounds}
 use Rattle.rounds.specs.Loop.{Ends}
 use Rattle.cover.specs.TableRounds.{tableOf}
 use Rattle.cover.specs.TableEntries.{IsTables}
-use Rattle.tables.specs.Held.{raiseRound, nearRound, Settling}
+use Rattle.table_rounds.specs.Held.{raiseRound, nearRound, Settling}
 use Rattle.tables.specs.Made.{made}
-use Rattle.tables.proofs.Starts.{homesIn}
+use Rattle.table_rounds.proofs.Starts.{homesIn}
 use Rattle.tables.proofs.Meaning.{ownStart, holds-paths, holds-ends, holds-few, holds-settling, holds-closable, holds-tables}
 use denote.Ref.{now}
 use lib.ListN.{length, getD, set, take, drop}
@@ -17,12 +17,12 @@ use Rattle.tables.proofs.fill_tables.Statement.{statement}
 use Rattle.tables.proofs.fill_tables.Tie as tie
 use Rattle.tables.proofs.fill_tables.Reads as reads
 use Rattle.tables.proofs.fill_tables.Lts as lts
-use Rattle.tables.proofs.closed.closed_walks.Reads as closed-walks-reads
-use Rattle.tables.proofs.distance.finish_distance.Reads as finish-distance-reads
-use Rattle.tables.proofs.distance.settle_distance.Reads as settle-distance-reads
-use Rattle.tables.proofs.distance.start_distance.Reads as start-distance-reads
-use Rattle.tables.proofs.reach.settle_reach.Reads as settle-reach-reads
-use Rattle.tables.proofs.reach.start_reach.Reads as start-reach-reads
+use Rattle.table_rounds.proofs.closed.closed_walks.Reads as closed-walks-reads
+use Rattle.table_rounds.proofs.distance.finish_distance.Reads as finish-distance-reads
+use Rattle.table_rounds.proofs.distance.settle_distance.Reads as settle-distance-reads
+use Rattle.table_rounds.proofs.distance.start_distance.Reads as start-distance-reads
+use Rattle.table_rounds.proofs.reach.settle_reach.Reads as settle-reach-reads
+use Rattle.table_rounds.proofs.reach.start_reach.Reads as start-reach-reads
 
 -- the rounds of the reach table
 raised : (c : tie.After-settle-reach) → let a = c .before .before .before .before .before .before .before .before .before .before .before .before .before .before .before .before .before .args in

@@ -1,4 +1,4 @@
-use Rattle.tables.specs.Held.{Held}
+use Rattle.table_rows.specs.HeldEdges.{Held}
 use Rattle.tables.proofs.Meaning.{holds-held, holds-on}
 use Rattle.tables.proofs.Rooms.{room-long, front-long, front-flat}
 use denote.Ref.{now}

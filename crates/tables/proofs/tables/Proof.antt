@@ -5,7 +5,7 @@ use Rattle.graph.specs.Entries.{Buffers}
 use Rattle.graph_read.proofs.Replying.{Full}
 use Rattle.graph_read.proofs.Outcome.{Accepts, number-zero, number-some}
 use Rattle.cover.specs.TableEntries.{TableBuffers, roomyTables}
-use Rattle.tables.specs.Held.{Holds}
+use Rattle.table_rounds.specs.Held.{Holds}
 use Rattle.tables.proofs.Rooms.{room-long}
 use Rattle.tables.proofs.Tabling.{small-answered, refused-answered, accepted-answered}
 use Rattle.tables.proofs.Accepted.{full-tables, full-roomy, same-reply, accepted-holds, accepted-paths}

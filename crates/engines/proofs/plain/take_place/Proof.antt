@@ -3,8 +3,8 @@ use mathlib.Core.Path.{_≡_, sym, _∙_}
 use native.Mathlib.Omega.{arith}
 use lib.ListN.{length, getD}
 use borrow.Author.Needs.{needs}
-use Rattle.tables.proofs.Linking.{Walking, walk-start, walk-on, walk-end, ahead, ahead-less}
-use Rattle.tables.specs.Lists.{IsNext}
+use Rattle.table_rows.proofs.Linking.{Walking, walk-start, walk-on, walk-end, ahead, ahead-less}
+use Rattle.table_rows.specs.Lists.{IsNext}
 use Rattle.engines.specs.Planning.{placeOf, BestWhere, Taken}
 use Rattle.engines.specs.Sweeping.{settingOf, ScoresLow}
 use Rattle.engines.proofs.PlainLaws.{place-turn, taken-passes, place-done}

@@ -1,0 +1,5 @@
+-- The laws that the proofs of the rounds' code cite.
+pub mod Relaxing
+pub mod Sweeping
+pub mod Starts
+pub mod Closes

@@ -1,0 +1,4 @@
+-- The definitions that the contracts of the rounds' code cite.
+pub mod Held
+pub mod Starting
+pub mod Closing

@@ -1,0 +1,3 @@
+-- The laws that the proofs of the rows' code cite.
+pub mod Laning
+pub mod Linking
