@@ -15,9 +15,10 @@ use Rattle.anchors.specs.Anchors.{Anchor, AnchorSet}
 use Rattle.chain.specs.Chains.{IsBest}
 use Rattle.chain.specs.Named.{Returned}
 use Rattle.chain.specs.ChainEntries.{Result, IsResult, IsSweep, IsPlain, ChainBuffers, filledChain}
-use Rattle.engines.specs.Setting.{Setting, Holds, Prepared}
-use Rattle.engines.specs.Returning.{Scored, ChainLaid}
-use Rattle.engines.proofs.SweepHeld.{swept-held, swept-best}
+use Rattle.steps.specs.Setting.{Setting, Holds, Prepared}
+use Rattle.steps.specs.Scores.{Scored}
+use Rattle.named_chain.specs.Returning.{ChainLaid}
+use Rattle.sweep_engine.proofs.SweepHeld.{swept-held, swept-best}
 use Rattle.placing.specs.declared.over.Engine.{Engine}
 use Rattle.placing.specs.declared.over.Engine.the-variants.{Sweep, Plain}
 use Rattle.placing.specs.declared.over.Placement.{Placement}

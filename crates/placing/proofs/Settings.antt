@@ -21,11 +21,12 @@ use Rattle.cover.proofs.TablesThere.{reach-cells, distance-cells}
 use Rattle.table_rounds.specs.Held as held
 use Rattle.table_rounds.specs.Held.{pathIn}
 use Rattle.chain.specs.Steps.{anchorAt}
-use Rattle.engines.specs.Setting.{Holds, Prepared, pathFrom}
-use Rattle.engines.specs.Sweeping.{settingOf, eachOf, NumbersFit}
-use Rattle.engines.specs.Planning.{placeOf, PlacesFit}
-use Rattle.engines.proofs.EachLaws.{each-length}
-use Rattle.engines.proofs.EndsHeld.{numbers-fit, ends-held}
+use Rattle.steps.specs.Setting.{Holds, Prepared, pathFrom}
+use Rattle.steps.specs.Setting.{settingOf}
+use Rattle.steps.specs.Filling.{eachOf, NumbersFit}
+use Rattle.plain_engine.specs.Planning.{placeOf, PlacesFit}
+use Rattle.steps.proofs.EachLaws.{each-length}
+use Rattle.steps.proofs.EndsHeld.{numbers-fit, ends-held}
 use Rattle.placing.specs.Lying.{AnchorsLie, Given, Over}
 
 module _ {g : Graph} {a : AnchorSet} {r count : ℕ} {numbers : List ℕ} (A : AnchorsLie g a r count numbers) where

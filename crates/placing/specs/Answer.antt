@@ -11,9 +11,9 @@ use Rattle.graph.specs.Content.{Graph}
 use Rattle.anchors.specs.Anchors.{Anchor}
 use Rattle.anchors.specs.AnchorEntries.{Both}
 use Rattle.chain.specs.ChainEntries.{Result, IsSweep, IsPlain, ChainBuffers, chainReply, filledChain}
-use Rattle.engines.specs.Setting.{Setting}
-use Rattle.engines.specs.Sweeping.{SweptIn}
-use Rattle.engines.specs.Planning.{AllBest}
+use Rattle.steps.specs.Setting.{Setting}
+use Rattle.sweep_engine.specs.Sweeping.{SweptIn}
+use Rattle.steps.specs.Scores.{AllBest}
 use Rattle.placing.specs.declared.ChainAnswer.{ChainAnswer}
 use Rattle.placing.specs.declared.over.Engine.{Engine}
 use Rattle.placing.specs.declared.over.Engine.the-variants.{Sweep, Plain}

@@ -17,7 +17,7 @@ use Rattle.cover.specs.CoverDistance.{pathAt}
 use Rattle.cover.specs.Finished.{ReachTable, DistanceTable}
 use Rattle.table_rounds.specs.Held as held
 use Rattle.chain.specs.Steps.{anchorAt}
-use Rattle.engines.specs.Setting.{lengthIn, pathFrom}
+use Rattle.steps.specs.Setting.{lengthIn, pathFrom}
 
 -- the anchors of a, which keep every rule over g, lie in `numbers`, five for each: `count` anchors on a read of r letters
 pub record AnchorsLie (g : Graph) (a : AnchorSet) (r count : ℕ) (numbers : List ℕ) : Type 0 where

@@ -1,8 +1,8 @@
 // One anchor file over a graph whose tables are made: the scores of an engine, and the chain.
-use engines::back::list_chain;
-use engines::plain::plain_pass;
-use engines::sweep::fill_ends;
-use engines::sweep::sweep_scores;
+use named_chain::list_chain;
+use plain_engine::plain_pass;
+use steps::ends::fill_ends;
+use sweep_engine::sweep_scores;
 use tables::vertex_zeros;
 use wire::lent::zero_rest_u32;
 use wire::sizes::FULL_SCORES;
@@ -13,9 +13,10 @@ ghost use Rattle.wire.specs.Sizes.{mostRead, mostAnchors, fullScores, fullChain
 ghost use Rattle.graph.specs.Content.{Graph};
 ghost use Rattle.anchors.specs.Anchors.{AnchorSet};
 ghost use Rattle.tables.specs.Made.{zeros};
-ghost use Rattle.engines.specs.Setting.{Prepared, Holds};
-ghost use Rattle.engines.specs.Sweeping.{settingOf};
-ghost use Rattle.engines.specs.Planning.{PlacesFit, AllBest};
+ghost use Rattle.steps.specs.Setting.{Prepared, Holds};
+ghost use Rattle.steps.specs.Setting.{settingOf};
+ghost use Rattle.plain_engine.specs.Planning.{PlacesFit};
+ghost use Rattle.steps.specs.Scores.{AllBest};
 ghost use Rattle.placing.specs.Lying.{Over, SomeOver};
 ghost use Rattle.placing.specs.Answer.{IsBy, ScoredBy, Laid};
 

@@ -5,14 +5,14 @@ use lib.ListN.{length, getD, take, drop}
 use lib.Seq.{length-take-le, length-front}
 use Rattle.wire.specs.Sizes.{fullScores, fullChain}
 use Rattle.tables.proofs.Tabling.{laid-part}
-use Rattle.engines.specs.Returning.{Scored}
+use Rattle.steps.specs.Scores.{Scored}
 use Rattle.placing.proofs.Results.{part-taken, laid-short, scored-by, laid-by, chain-on}
 use borrow.Author.Needs.{needs}
 use Rattle.placing.proofs.over.lay_chain.Statement.{statement}
 use Rattle.placing.proofs.over.lay_chain.Tie as tie
 use Rattle.placing.proofs.over.lay_chain.Reads as reads
 use Rattle.placing.proofs.over.lay_chain.Lts as lts
-use Rattle.engines.proofs.back.list_chain.Reads as list-chain-reads
+use Rattle.named_chain.proofs.list_chain.Reads as list-chain-reads
 use Rattle.placing.proofs.over.scores_by.Reads as scores-by-reads
 use Rattle.wire.proofs.lent.zero_rest_u32.Reads as zero-rest-u32-reads
 

@@ -5,8 +5,8 @@ use lib.ListN.{length, getD, take, drop}
 use Rattle.tables.proofs.Rooms.{room-long, front-long}
 use Rattle.graph.specs.Content.{Graph}
 use Rattle.anchors.specs.Anchors.{AnchorSet}
-use Rattle.engines.specs.Setting.{Holds}
-use Rattle.engines.specs.Sweeping.{settingOf}
+use Rattle.steps.specs.Setting.{Holds}
+use Rattle.steps.specs.Setting.{settingOf}
 use Rattle.placing.specs.Lying.{Over}
 use Rattle.placing.proofs.Settings.{few-anchors, short-read, places-fit, anchors-fit, over-holds}
 use borrow.Author.Needs.{needs}
@@ -14,7 +14,7 @@ use Rattle.placing.proofs.over.place_over.Statement.{statement}
 use Rattle.placing.proofs.over.place_over.Tie as tie
 use Rattle.placing.proofs.over.place_over.Reads as reads
 use Rattle.placing.proofs.over.place_over.Lts as lts
-use Rattle.engines.proofs.sweep.fill_ends.Reads as fill-ends-reads
+use Rattle.steps.proofs.ends.fill_ends.Reads as fill-ends-reads
 use Rattle.placing.proofs.over.anchor_zeros.Reads as anchor-zeros-reads
 use Rattle.placing.proofs.over.lay_chain.Reads as lay-chain-reads
 use Rattle.tables.proofs.vertex_zeros.Reads as vertex-zeros-reads

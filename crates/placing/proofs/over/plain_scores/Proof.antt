@@ -3,13 +3,13 @@ use mathlib.Core.Path.{_≡_, refl, sym, ap, _∙_, subst}
 use native.Mathlib.Omega.{arith}
 use lib.ListN.{length, getD, take, drop}
 use Rattle.tables.proofs.Rooms.{front-long}
-use Rattle.engines.specs.Planning.{PlacesFit}
+use Rattle.plain_engine.specs.Planning.{PlacesFit}
 use borrow.Author.Needs.{needs}
 use Rattle.placing.proofs.over.plain_scores.Statement.{statement}
 use Rattle.placing.proofs.over.plain_scores.Tie as tie
 use Rattle.placing.proofs.over.plain_scores.Reads as reads
 use Rattle.placing.proofs.over.plain_scores.Lts as lts
-use Rattle.engines.proofs.plain.plain_pass.Reads as plain-pass-reads
+use Rattle.plain_engine.proofs.plain_pass.Reads as plain-pass-reads
 use Rattle.placing.proofs.over.anchor_zeros.Reads as anchor-zeros-reads
 use Rattle.placing.proofs.over.read_zeros.Reads as read-zeros-reads
 

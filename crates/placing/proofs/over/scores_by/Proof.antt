@@ -9,7 +9,7 @@ use Rattle.placing.proofs.over.scores_by.Statement.{statement}
 use Rattle.placing.proofs.over.scores_by.Tie as tie
 use Rattle.placing.proofs.over.scores_by.Reads as reads
 use Rattle.placing.proofs.over.scores_by.Lts as lts
-use Rattle.engines.proofs.sweep.sweep_scores.Reads as sweep-scores-reads
+use Rattle.sweep_engine.proofs.sweep_scores.Reads as sweep-scores-reads
 use Rattle.placing.proofs.over.plain_scores.Reads as plain-scores-reads
 
 enum-told : tie.Need-enum-told

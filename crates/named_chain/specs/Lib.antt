@@ -1,0 +1,2 @@
+-- The definitions of the chain that is returned.
+pub mod Returning

@@ -1,0 +1,2 @@
+-- The laws of the plain pass.
+pub mod PlainLaws

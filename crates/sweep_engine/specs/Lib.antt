@@ -1,0 +1,2 @@
+-- The definition of the sweep.
+pub mod Sweeping

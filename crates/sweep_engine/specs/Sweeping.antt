@@ -1,0 +1,28 @@
+-- The sweep over a setting: its rule and its round, where its scores start, and its rounds by the rule.
+use Prim.Native.Nat.{ℕ, _+_, _-_, _≤_}
+use mathlib.Core.Path.{_≡_}
+use mathlib.Core.List.{List, []}
+use Rattle.rounds.specs.Rounds.{Rounds}
+use Rattle.rounds.specs.Rule.{Rule}
+use Rattle.rounds.specs.Kinds.{scoreRule}
+use Rattle.rounds.specs.Table.{vectorRound}
+use Rattle.chain.specs.Sweep.{stepLinks}
+use Rattle.steps.specs.Setting.{Setting, anchorOf, stepOf}
+use Rattle.steps.specs.Filling.{eachOf}
+
+-- the rule of the sweep over the setting
+abbrev pub ruleOf : Setting → Rule
+ruleOf s = scoreRule (stepLinks (s .count) (stepOf s)) (λ j. anchorOf s j .weight) (λ i j. stepOf s i j - 1)
+
+-- a round of the sweep
+abbrev pub roundOf : Setting → List ℕ → List ℕ
+roundOf s = vectorRound (ruleOf s) (s .count)
+
+-- "scores start at the weights"
+abbrev pub weightsOf : Setting → List ℕ
+weightsOf s = eachOf (λ a. a .weight) (s .numbers) (s .count)
+
+-- the sweep's rounds over a setting, by the rule: "scores start at the weights"; "With no anchors .. the score and rounds are 0."
+pub data SweptIn (s : Setting) : ℕ → List ℕ → Type 0 where
+  empty : s .count ≡ 0 → SweptIn s 0 []
+  made : {k : ℕ} {S : List ℕ} → 1 ≤ s .count → Rounds (roundOf s) (weightsOf s) k S → SweptIn s k S
