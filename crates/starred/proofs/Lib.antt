@@ -1,0 +1,2 @@
+-- That every starred case holds.
+pub mod Proved
