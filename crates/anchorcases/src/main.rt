@@ -1,10 +1,10 @@
 // Runs the check of both files on document 01's cases and on bad input, and the view of an anchor's letters, and writes one line for each: r, N and
 // where the read starts, or the refusal's number, file and place; the view's file, place, length and letters. What must be written comes from an
 // independent program made from document 01 alone.
-use anchors::CheckedBoth;
-use anchors::check_anchors;
-use anchors::view::anchor_letters;
-use anchors::view::view;
+use anchors_check::CheckedBoth;
+use anchors_check::check_anchors;
+use anchors_check::view::anchor_letters;
+use anchors_check::view::view;
 
 // Writes a text and a number.
 fn say(text: &[u8], x: u64) {

@@ -14,10 +14,4 @@ pub mod AnchorRoundTrips
 pub mod ViewLaws
 pub mod AnchorPrefixes
 pub mod AnchorWriting
-pub mod LabelLaws
-pub mod OneLaws
-pub mod EachLaws
-pub mod OverLaws
-pub mod BothLaws
-pub mod Viewing
 pub mod AnchorRooms

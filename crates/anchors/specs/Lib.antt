@@ -7,7 +7,3 @@ pub mod AnchorReading
 pub mod AnchorPlaces
 pub mod AnchorEntries
 pub mod View
-pub mod LabelTables
-pub mod OneAnchor
-pub mod CheckedAnchors
-pub mod Viewed

@@ -10,14 +10,14 @@ use Rattle.wire.specs.Found.{Reply, accepted, refused}
 use Rattle.wire.specs.Lent.{laid}
 use Rattle.wire.specs.Refusals.{smallBuffer}
 use Rattle.wire.specs.Sizes.{mostRead, mostAnchors, fullLetters, fullAnchors}
-use Rattle.graph.specs.declared.Sections.{Sections}
+use Rattle.graph_check.specs.declared.Sections.{Sections}
 use Rattle.graph_read.specs.Filling.{numbersIn}
 use Rattle.graph_read.proofs.Decoding.{letters-are}
 use Rattle.anchors.specs.Anchors.{perAnchor, anchorNumbers}
 use Rattle.anchors.specs.AnchorEntries.{Both, bothReply, AnchorBuffers, roomyAnchors, readAnchorsReply, filledAnchors}
-use Rattle.anchors.specs.CheckedAnchors.{anchorSectionsOf, checkedBothOf}
-use Rattle.anchors.specs.declared.AnchorSections.{AnchorSections}
-use Rattle.anchors.specs.declared.CheckedBoth.the-variants.{Accepted, Refused}
+use Rattle.anchors_check.specs.CheckedAnchors.{anchorSectionsOf, checkedBothOf}
+use Rattle.anchors_check.specs.declared.AnchorSections.{AnchorSections}
+use Rattle.anchors_check.specs.declared.CheckedBoth.the-variants.{Accepted, Refused}
 use Rattle.anchors.proofs.AnchorAccepting.{anchor-parts}
 use Rattle.anchors.proofs.BothFiles.{both-taken}
 use Rattle.anchors_read.specs.declared.AnchorsAnswer.{AnchorsAnswer}

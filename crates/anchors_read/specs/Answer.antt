@@ -8,7 +8,7 @@ use Rattle.wire.specs.Found.{Reply, accepted, refused}
 use Rattle.wire.specs.Sizes.{fullLetters, fullAnchors}
 use Rattle.anchors.specs.Anchors.{readLength, anchorCount}
 use Rattle.anchors.specs.AnchorEntries.{Both, AnchorBuffers, readAnchorsReply, readAnchorsAfter}
-use Rattle.anchors.specs.declared.AnchorSections.{AnchorSections}
+use Rattle.anchors_check.specs.declared.AnchorSections.{AnchorSections}
 use Rattle.anchors_read.specs.declared.AnchorsAnswer.{AnchorsAnswer}
 
 -- "Each answer holds the number, the file (1 graph, 2 anchors) and the place; an acceptance has 0 in all three." An acceptance has r and N;

@@ -1,9 +1,9 @@
 // The reader of an anchor file: it checks both files, and lays an accepted anchor file's content into lent buffers.
 mod fills; // fills.rt: the read's letters and the anchors' numbers
 
-use anchors::AnchorSections;
-use anchors::CheckedBoth;
-use anchors::check_anchors;
+use anchors_check::AnchorSections;
+use anchors_check::CheckedBoth;
+use anchors_check::check_anchors;
 use wire::refusals::SMALL_BUFFER;
 use wire::sizes::FULL_ANCHORS;
 use wire::sizes::FULL_LETTERS;

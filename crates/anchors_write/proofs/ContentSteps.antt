@@ -8,9 +8,9 @@ use lib.ListN.{length, take}
 use Rattle.wire.specs.Sizes.{mostRead, mostAnchors}
 use Rattle.graph.specs.Content.{Graph}
 use Rattle.graph.proofs.Kept.{range-kept}
-use Rattle.graph_write.specs.Faults.{first, lettersFault}
-use Rattle.graph_write.proofs.Encoded.{numbers-part}
-use Rattle.graph_write.proofs.Faulting.{first-bad, first-none, first-zero}
+use Rattle.graph_content.specs.Faults.{first, lettersFault}
+use Rattle.graph_content.proofs.Encoded.{numbers-part}
+use Rattle.graph_content.proofs.Faulting.{first-bad, first-none, first-zero}
 use Rattle.anchors.specs.AnchorRules.{readFault, anchorCountFault, noAnchor}
 use Rattle.anchors.specs.AnchorEntries.{AnchorsGiven}
 use Rattle.anchors_write.specs.FirstFaults.{eachFault, contentFault}

@@ -7,13 +7,13 @@ use mathlib.Core.Bool.{true, false}
 use native.Mathlib.Omega.{arith}
 use Rattle.wire.specs.Refusals.{notRising}
 use Rattle.graph.specs.Content.{Graph}
-use Rattle.graph_write.specs.Faults.{first}
-use Rattle.graph_write.proofs.Encoded.{left-more, left-none}
-use Rattle.graph_write.proofs.Faulting.{first-bad, first-none}
+use Rattle.graph_content.specs.Faults.{first}
+use Rattle.graph_content.proofs.Encoded.{left-more, left-none}
+use Rattle.graph_content.proofs.Faulting.{first-bad, first-none}
 use Rattle.anchors.specs.Anchors.{Anchor}
 use Rattle.anchors.specs.AnchorRules.{ownFault, keyBelow, anchorFault}
 use Rattle.anchors.specs.AnchorEntries.{anchorIn}
-use Rattle.anchors.proofs.EachLaws.{fault-own, fault-order, fault-none}
+use Rattle.anchors_check.proofs.EachLaws.{fault-own, fault-order, fault-none}
 use Rattle.anchors_write.specs.FirstFaults.{eachFault}
 
 module _ (g : Graph) (read : List ℕ) (n i : ℕ) (last : Anchor) (numbers : List ℕ) where

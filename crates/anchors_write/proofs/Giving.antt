@@ -5,8 +5,8 @@ use mathlib.Core.Path.{_≡_, refl}
 use mathlib.Core.List.{List}
 use Rattle.wire.specs.Found.{good, refuse}
 use Rattle.graph.specs.Content.{Graph}
-use Rattle.graph_write.specs.Used.{numbersIn}
-use Rattle.graph_write.proofs.Givens.{then, twice, letters-given}
+use Rattle.graph_content.specs.Used.{numbersIn}
+use Rattle.graph_content.proofs.Givens.{then, twice, letters-given}
 use Rattle.anchors.specs.Anchors.{Anchor}
 use Rattle.anchors.specs.AnchorRules.{noAnchor}
 use Rattle.anchors.specs.AnchorEntries.{AnchorsGiven, anchorIn, eachGiven, anchorsGiven}

@@ -11,11 +11,11 @@ use Rattle.wire.specs.Lent.{front}
 use Rattle.wire.specs.Refusals.{outOfRange, smallBuffer, shortOutput, graphFile, anchorFile}
 use Rattle.wire.specs.Sizes.{mostFileBytes}
 use Rattle.graph.specs.Reading.{graphOf}
-use Rattle.graph.proofs.Passing.{refuse-none, refuse-some}
+use Rattle.graph_parts.proofs.Passing.{refuse-none, refuse-some}
 use Rattle.anchors.specs.Anchors.{AnchorSet}
 use Rattle.anchors.specs.AnchorBytes.{encodeAnchors}
 use Rattle.anchors.specs.AnchorEntries.{AnchorsGiven, anchorsGiven, roomyAnchors, anchorSizeReply, writeAnchorsReply}
-use Rattle.anchors.specs.LabelTables.{contentOf, Accepts}
+use Rattle.anchors_check.specs.LabelTables.{contentOf, Accepts}
 use Rattle.anchors_write.specs.declared.WrittenAnchors.{WrittenAnchors}
 use Rattle.anchors_write.specs.InPlaces.{setIn}
 use Rattle.anchors_write.specs.FirstFaults.{contentFault}

@@ -9,10 +9,10 @@ use lib.Seq.{length-take-le}
 use Rattle.wire.specs.Numbers.{encode}
 use Rattle.wire.specs.Sizes.{anchorKind}
 use Rattle.graph.specs.Encode.{encodeNumbers}
-use Rattle.graph_write.specs.Used.{numbersIn}
+use Rattle.graph_content.specs.Used.{numbersIn}
 use Rattle.wire.specs.Lent.{front}
-use Rattle.graph_write.proofs.Along.{Along}
-use Rattle.graph_write.proofs.Encoded.{length-numbers, numbers-part}
+use Rattle.graph_bytes.proofs.Along.{Along}
+use Rattle.graph_content.proofs.Encoded.{length-numbers, numbers-part}
 use Rattle.anchors.specs.Anchors.{Anchor, perAnchor}
 use Rattle.anchors.specs.AnchorBytes.{encodeEach, encodeAnchors}
 use Rattle.anchors.specs.AnchorEntries.{AnchorsGiven, anchorIn}

@@ -2,8 +2,8 @@
 use Prim.Native.Nat.{ℕ, zero, suc, _+_}
 use mathlib.Core.List.{List}
 use Rattle.graph.specs.Content.{Graph}
-use Rattle.graph_write.specs.Used.{numbersIn}
-use Rattle.graph_write.specs.Faults.{first, lettersFault}
+use Rattle.graph_content.specs.Used.{numbersIn}
+use Rattle.graph_content.specs.Faults.{first, lettersFault}
 use Rattle.anchors.specs.Anchors.{Anchor}
 use Rattle.anchors.specs.AnchorRules.{readFault, anchorCountFault, anchorFault, noAnchor}
 use Rattle.anchors.specs.AnchorEntries.{AnchorsGiven, anchorIn}

@@ -5,7 +5,7 @@ use lib.ListN.{length, take}
 use Rattle.wire.specs.Numbers.{encode}
 use Rattle.wire.specs.Sizes.{anchorKind}
 use Rattle.graph.specs.Encode.{encodeNumbers}
-use Rattle.graph_write.specs.Used.{numbersIn}
+use Rattle.graph_content.specs.Used.{numbersIn}
 use Rattle.anchors.specs.Anchors.{Anchor, AnchorSet, perAnchor}
 use Rattle.anchors.specs.AnchorEntries.{AnchorsGiven, anchorIn}
 

@@ -1,8 +1,8 @@
 // The bytes of content without fault: how many they are, and written.
 use anchors::PER_ANCHOR;
-use graph_write::puts::put_numbers;
-use graph_write::room::numbers_size;
-use graph_write::room::wide;
+use graph_bytes::puts::put_numbers;
+use graph_bytes::room::numbers_size;
+use graph_content::wide;
 use wire::letters::put_letters;
 use wire::numbers::group_count;
 use wire::numbers::put_number;

@@ -1,13 +1,13 @@
 // The first fault of the content, in the reader's order, 0 for none.
 use anchors::PER_ANCHOR;
-use anchors::labels::label_places;
-use anchors::labels::label_table;
-use anchors::one::Five;
-use anchors::one::key_below;
-use anchors::one::own_fault;
-use graph::rules::range_fault;
-use graph_write::content::letters_fault;
-use graph_write::room::wide;
+use anchors_check::labels::label_places;
+use anchors_check::labels::label_table;
+use anchors_check::one::Five;
+use anchors_check::one::key_below;
+use anchors_check::one::own_fault;
+use graph_content::content::letters_fault;
+use graph_content::wide;
+use graph_parts::rules::range_fault;
 use wire::refusals::NOT_RISING;
 use wire::sizes::MOST_ANCHORS;
 use wire::sizes::MOST_READ;
@@ -18,8 +18,8 @@ ghost use Rattle.wire.specs.Sizes.{mostAnchors, fullLetters, fullAnchors};
 ghost use Rattle.anchors.specs.Anchors.{perAnchor};
 ghost use Rattle.anchors.specs.AnchorRules.{noAnchor};
 ghost use Rattle.anchors.specs.AnchorEntries.{anchorIn};
-ghost use Rattle.anchors.specs.LabelTables.{LabelsAt, LabelTables, contentOf};
-ghost use Rattle.anchors.specs.OneAnchor.{anchorOf};
+ghost use Rattle.anchors_check.specs.LabelTables.{LabelsAt, LabelTables, contentOf};
+ghost use Rattle.anchors_check.specs.OneAnchor.{anchorOf};
 ghost use Rattle.anchors_write.specs.FirstFaults.{eachFault, contentFault};
 
 // Anchor i of the anchors' numbers, counted from 0.

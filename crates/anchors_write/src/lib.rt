@@ -2,8 +2,8 @@
 mod content; // content.rt: the first fault of the content
 mod bytes; // bytes.rt: how many bytes the encoding takes, and writing them
 
-use graph::Checked;
-use graph::check_graph;
+use graph_check::Checked;
+use graph_check::check_graph;
 use wire::refusals::ANCHOR_FILE;
 use wire::refusals::GRAPH_FILE;
 use wire::refusals::OUT_OF_RANGE;

@@ -1,5 +1,5 @@
 -- The laws of the graph file. Parted says what an accepted file's sections are; Whole, Rereading and Exactly that it is accepted exactly when every rule holds;
--- Faulty what a fault is; RoundTrips and Prefixes the two entries together. Marking to Fronting serve the check.
+-- Faulty what a fault is; RoundTrips and Prefixes the two entries together.
 pub mod Starred
 pub mod Steps
 pub mod Kept
@@ -14,11 +14,3 @@ pub mod Givens
 pub mod Regiven
 pub mod RoundTrips
 pub mod Prefixes
-pub mod Marking
-pub mod Passing
-pub mod Lettering
-pub mod Edging
-pub mod Searching
-pub mod Stepping
-pub mod Walking
-pub mod Fronting

@@ -16,9 +16,9 @@ use Rattle.graph.specs.Content.{edgeNumbers, pathNumbers}
 use Rattle.graph.specs.Good.{All}
 use Rattle.graph.specs.Reading.{Parsed, labelsFrom, graphOf}
 use Rattle.graph.specs.Entries.{Buffers, roomy, readReply, filled}
-use Rattle.graph.specs.Checked.{sectionsOf, checkedOf}
-use Rattle.graph.specs.declared.Sections.{Sections}
-use Rattle.graph.specs.declared.Checked.the-variants.{Accepted, Fault}
+use Rattle.graph_check.specs.Checked.{sectionsOf, checkedOf}
+use Rattle.graph_check.specs.declared.Sections.{Sections}
+use Rattle.graph_check.specs.declared.Checked.the-variants.{Accepted, Fault}
 use Rattle.graph.proofs.Kept.{both}
 use Rattle.graph.proofs.Parted.{parts}
 use Rattle.graph_read.specs.declared.GraphAnswer.{GraphAnswer}

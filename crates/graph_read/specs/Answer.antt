@@ -10,7 +10,7 @@ use Rattle.wire.specs.Sizes.{fullLetters, fullLengths, fullEdges, fullPaths, fu
 use Rattle.graph.specs.Content.{vertexCount, edgeCount, pathCount, lettersOf}
 use Rattle.graph.specs.Reading.{Parsed}
 use Rattle.graph.specs.Entries.{Buffers, readReply, readAfter}
-use Rattle.graph.specs.declared.Sections.{Sections}
+use Rattle.graph_check.specs.declared.Sections.{Sections}
 use Rattle.graph_read.specs.declared.GraphAnswer.{GraphAnswer}
 
 -- "Each answer holds the number, the file (1 graph, 2 anchors) and the place; an acceptance has 0 in all three." An acceptance has the

@@ -4,8 +4,8 @@ mod labels; // labels.rt: the labels' letters and lengths
 mod edges; // edges.rt: the edges' numbers
 mod paths; // paths.rt: the paths, each in its room, and their counts
 
-use graph::Checked;
-use graph::Sections;
+use graph_check::Checked;
+use graph_check::Sections;
 use wire::refusals::GRAPH_FILE;
 use wire::refusals::SMALL_BUFFER;
 use wire::sizes::FULL_COUNTS;
@@ -100,7 +100,7 @@ pub fn read_graph(
     ) {
         return refusal(SMALL_BUFFER, 0, 0);
     }
-    let found = graph::check_graph(file);
+    let found = graph_check::check_graph(file);
     match found {
         Checked::Fault(number, place) => refusal(number, GRAPH_FILE, place as u32),
         Checked::Accepted(s) => {

@@ -18,10 +18,10 @@ use Rattle.graph.specs.Content.{Graph}
 use Rattle.graph.specs.Encode.{encodeGraph}
 use Rattle.graph.specs.Entries.{Given, roomy, graphGiven, sizeReply, writeReply, writeAfter}
 use Rattle.graph_write.specs.declared.WrittenAnswer.{WrittenAnswer}
-use Rattle.graph_write.specs.Used.{Full, graphIn}
-use Rattle.graph_write.specs.Faults.{contentFault}
+use Rattle.graph_content.specs.Used.{Full, graphIn}
+use Rattle.graph_content.specs.Faults.{contentFault}
 use Rattle.graph_write.specs.Answer.{fullSizes, refusedWith, Written}
-use Rattle.graph_write.proofs.Givens.{graph-given}
+use Rattle.graph_content.proofs.Givens.{graph-given}
 
 -- ---- the buffers
 

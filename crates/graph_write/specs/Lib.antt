@@ -1,6 +1,2 @@
--- The definitions of the graph writer, beside those of the graph file.
-pub mod Used
-pub mod Faults
-pub mod Search
-pub mod Flags
+-- The definitions of the graph writer, beside those of the graph file and of the content that it is given.
 pub mod Answer

@@ -1,7 +1,7 @@
 // Runs the check of a graph file on document 01's cases and on bad input, and writes one line for each: the sections, or the refusal's
 // number and place. What must be written was worked out by hand from document 01.
-use graph::Checked;
-use graph::check_graph;
+use graph_check::Checked;
+use graph_check::check_graph;
 
 // Writes a text and a number.
 fn say(text: &[u8], x: u64) {

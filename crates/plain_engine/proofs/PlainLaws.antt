@@ -21,17 +21,11 @@ use Rattle.table_rows.proofs.Linking.{Walking, Passes, walk-on, walk-turn}
 use Rattle.chain.specs.Steps.{anchorAt, Step}
 use Rattle.chain.specs.Chains.{IsBest}
 use Rattle.chain.proofs.BestScores.{follows-best}
-use Rattle.steps.specs.Pairs.{bestIn}
-use Rattle.steps.specs.Setting.{Setting, anchorOf, rowIn, stepOf, Holds, Prepared}
+use Rattle.steps.specs.Setting.{Setting, anchorOf, stepOf, Holds, Prepared}
 use Rattle.steps.specs.Scores.{ScoresLow, AllBest}
-use Rattle.plain_engine.specs.Planning.{placeOf, PlacesFit, takenAt, BestWhere, Taken}
+use Rattle.plain_engine.specs.Planning.{placeOf, PlacesFit, takes, takenAt, BestWhere, Taken}
 use Rattle.steps.proofs.SettingLaws.{anchor-fits, held-step}
 use Rattle.steps.proofs.HeldLaws.{held-within, within-held, held-number, held-order, step-told, best-low}
-
--- what anchor j takes
-takes : Setting → ℕ → List ℕ → ℕ
-takes s j S =
-    bestIn (s .ends) S (rowIn s (anchorOf s j .v)) (anchorOf s j .weight) (anchorOf s j .v) (anchorOf s j .x) (anchorOf s j .c) (anchorOf s j .weight) (s .count)
 
 module _ {s : Setting} {g : Graph} {a : AnchorSet} (H : Holds s g a) (S : List ℕ) (j : ℕ) (w : Within (s .count) j) where
   test : (i : ℕ) → Dec (1 ≤ stepOf s i j)
@@ -86,11 +80,11 @@ module _ {s : Setting} {g : Graph} {a : AnchorSet} (H : Holds s g a) (S : List �
 module _ {s : Setting} {S : List ℕ} where
   module _ {c j : ℕ} (w : Within (s .count) j) (l : ScoresLow s S) (e : anchorOf s j .c ≡ c) (b : BestWhere s S (Taken s c (j - 1))) where
     own : entry j (takenAt s j S) ≡ takes s j S
-    unfolding takenAt takes
+    unfolding takenAt
     own = getD-set-same S (j - 1) (takes s j S) 0 (omega (arith, l .size))
 
     other : (i : ℕ) → Within (s .count) i → i ≢ j → entry i (takenAt s j S) ≡ entry i S
-    unfolding takenAt takes
+    unfolding takenAt
     other i wi n = getD-set-other S (j - 1) (i - 1) (takes s j S) 0 (λ q. n (omega arith))
 
     -- an anchor that is taken in read order takes its best score, and the others keep theirs

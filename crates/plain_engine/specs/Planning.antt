@@ -22,10 +22,14 @@ pub record PlacesFit (count r : ℕ) (numbers : List ℕ) : Type 0 where
   pub room : perAnchor * count ≤ length numbers
   pub places : (j : ℕ) → Within count j → Within r (placeOf numbers j)
 
--- anchor j takes its score: the greatest of its weight and of the candidates of all anchors
+-- the score that anchor j takes: the greatest of its weight and of the candidates of all anchors
+unfoldable pub takes : Setting → ℕ → List ℕ → ℕ
+takes s j S =
+    bestIn (s .ends) S (rowIn s (anchorOf s j .v)) (anchorOf s j .weight) (anchorOf s j .v) (anchorOf s j .x) (anchorOf s j .c) (anchorOf s j .weight) (s .count)
+
+-- anchor j takes its score
 unfoldable pub takenAt : Setting → ℕ → List ℕ → List ℕ
-takenAt s j S = set S (j - 1)
-    (bestIn (s .ends) S (rowIn s (anchorOf s j .v)) (anchorOf s j .weight) (anchorOf s j .v) (anchorOf s j .x) (anchorOf s j .c) (anchorOf s j .weight) (s .count))
+takenAt s j S = set S (j - 1) (takes s j S)
 
 -- each anchor of which P holds has the best score of the chains that end there, whatever graph and anchors are held
 pub record BestWhere (s : Setting) (S : List ℕ) (P : ℕ → Type 0) : Type 0 where

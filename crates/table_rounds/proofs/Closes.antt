@@ -9,16 +9,18 @@ use lib.ListN.{length, getD, set, length-set}
 use lib.Seq.{getD-set-same, getD-set-other}
 use Rattle.wire.specs.Sizes.{tableRow}
 use Rattle.rounds.specs.Rounds.{Within, Rounds, sweep, iterate}
-use Rattle.rounds.specs.Table.{entry}
+use Rattle.rounds.specs.Rule.{Rule}
+use Rattle.rounds.specs.Place.{cellPlace}
+use Rattle.rounds.specs.Table.{tableRound, entry}
 use Rattle.rounds.proofs.Upto.{within}
 use Rattle.rounds.proofs.Counts.{rounds-least}
-use Rattle.table_rounds.specs.Held.{nearRound, Fitting, Settling}
+use Rattle.table_rounds.specs.Held.{onwardRound, Fitting, Settling}
 use Rattle.table_rounds.specs.Closing.{sixteenStart, backBy, ClosedBy}
 
 -- what the rounds leave fits
-pub settling-last : {n m : ℕ} {lengths edges reach s : List ℕ} → Settling n m lengths edges reach s → 1 ≤ n → {k : ℕ} {t : List ℕ} → Rounds (nearRound n m lengths edges reach) s k t → Fitting n lengths t
+pub settling-last : {n : ℕ} {lengths s : List ℕ} {rules : ℕ → Rule} → Settling n lengths rules s → 1 ≤ n → {k : ℕ} {t : List ℕ} → Rounds (tableRound cellPlace rules tableRow n) s k t → Fitting n lengths t
 unfolding sweep
-settling-last {n} {m} {lengths} {edges} {reach} {s} S l {k} {t} r = subst (Fitting n lengths) (rounds-least (nearRound n m lengths edges reach) r .left) (S .fitting k 0 l)
+settling-last {n} {lengths} {s} {rules} S l {k} {t} r = subst (Fitting n lengths) (rounds-least (tableRound cellPlace rules tableRow n) r .left) (S .fitting k 0 l)
 
 -- the first i of the sixteen are closed, and what was closed before is as it was
 pub record Closes (n m : ℕ) (lengths edges table : List ℕ) (base i : ℕ) (old closed : List ℕ) : Type 0 where
@@ -49,8 +51,8 @@ module _ {n m : ℕ} {lengths edges table : List ℕ} {base : ℕ} {old : List �
       at j k l (no d) = getD-set-other closed (base + i) (base + j - 1) x 0 (omega arith) ∙ w .done j (within (k .low) (omega arith)) l
 
   -- all sixteen
-  pub closes-all : {level : List ℕ} {i : ℕ} {closed : List ℕ} (count : ℕ) → tableRow ≤ i → Rounds (nearRound n m lengths edges level) (sixteenStart n base) count table → Closes n m lengths edges table base i old closed
-      → (v : ℕ) → base < v → v ≤ base + tableRow → v ≤ n → ClosedBy n m lengths edges level v (entry v closed)
+  pub closes-all : {i : ℕ} {closed : List ℕ} (count : ℕ) → tableRow ≤ i → Rounds (onwardRound n m lengths edges) (sixteenStart n base) count table → Closes n m lengths edges table base i old closed
+      → (v : ℕ) → base < v → v ≤ base + tableRow → v ≤ n → ClosedBy n m lengths edges v (entry v closed)
   closes-all {closed = closed} count h r w v a b l =
       let e : base + (v - base) ≡ v = omega arith in
       record {
@@ -65,13 +67,13 @@ module _ {n m : ℕ} {lengths edges table : List ℕ} {base : ℕ} {old : List �
       }
 
 -- sixteen more
-pub closed-more : {n m : ℕ} {lengths edges level : List ℕ} (base : ℕ) (closed new : List ℕ)
-    → ((v : ℕ) → Within base v → v ≤ n → ClosedBy n m lengths edges level v (entry v closed))
+pub closed-more : {n m : ℕ} {lengths edges : List ℕ} (base : ℕ) (closed new : List ℕ)
+    → ((v : ℕ) → Within base v → v ≤ n → ClosedBy n m lengths edges v (entry v closed))
     → ((v : ℕ) → Within base v → entry v new ≡ entry v closed)
-    → ((v : ℕ) → base < v → v ≤ base + tableRow → v ≤ n → ClosedBy n m lengths edges level v (entry v new))
-    → (v : ℕ) → Within (base + tableRow) v → v ≤ n → ClosedBy n m lengths edges level v (entry v new)
-closed-more {n} {m} {lengths} {edges} {level} base closed new old same more v w l = go (decLe v base)
+    → ((v : ℕ) → base < v → v ≤ base + tableRow → v ≤ n → ClosedBy n m lengths edges v (entry v new))
+    → (v : ℕ) → Within (base + tableRow) v → v ≤ n → ClosedBy n m lengths edges v (entry v new)
+closed-more {n} {m} {lengths} {edges} base closed new old same more v w l = go (decLe v base)
   where
-    go : Dec (v ≤ base) → ClosedBy n m lengths edges level v (entry v new)
-    go (yes h) = let k : Within base v = within (w .low) h in subst (ClosedBy n m lengths edges level v) (sym (same v k)) (old v k l)
+    go : Dec (v ≤ base) → ClosedBy n m lengths edges v (entry v new)
+    go (yes h) = let k : Within base v = within (w .low) h in subst (ClosedBy n m lengths edges v) (sym (same v k)) (old v k l)
     go (no h) = more v (omega arith) (w .high) l

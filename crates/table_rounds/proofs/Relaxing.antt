@@ -1,4 +1,4 @@
--- A walk along the edges into a vertex: what each turn adds to a row of the reach table, a row of the distance table, and a walk back. Assumes nothing.
+-- A walk along the edges into a vertex: what each turn adds to a row of a table, by any rules; of reach, distance and least walks; and to a walk back. Assumes nothing.
 use Prim.Native.Nat.{ℕ, zero, suc, _+_, _-_, _*_, _≤_, _<_, _^_, max}
 use mathlib.Core.Path.{_≡_, refl, sym, ap, _∙_, subst}
 use mathlib.Core.Logic.{_≢_, _⊎_, inl, inr}
@@ -17,7 +17,7 @@ use Rattle.rounds.proofs.Upto.{within}
 use Rattle.rounds.proofs.Gather.{gather-none, gather-take, gather-skip}
 use Rattle.table_rows.specs.Lanes.{Lanes, brought}
 use Rattle.table_rows.specs.HeldEdges.{source, target}
-use Rattle.table_rounds.specs.Held.{labelLength, heldLinks, heldLevels, raise, near, Fitting}
+use Rattle.table_rounds.specs.Held.{labelLength, heldLinks, raise, near, onward, Fitting}
 use Rattle.table_rounds.specs.Closing.{backBy}
 use Rattle.table_rows.proofs.Laning.{brought-level, brought-none, closer-none}
 use Rattle.table_rows.specs.Lists.{IsNext}
@@ -44,90 +44,97 @@ at-cell v i t l = ap (λ (q : ℕ). getD t q 0) (omega arith)
 pub fits-at : {n : ℕ} {lengths table : List ℕ} → Fitting n lengths table → (u i : ℕ) → Within n u → i < tableRow → getD table (16 * (u - 1) + i) 0 + labelLength lengths u < 2 ^ 32
 fits-at {table = table} f u i w h = rw (at-cell u i table (w .low)) (f .fits u (i + 1) w (within (omega arith) (omega arith)))
 
+-- ---- a row, by any rules of the columns whose links into v are edges into v
+
+module _ (table : List ℕ) (rules : ℕ → Rule) (v : ℕ) where
+  -- over the first k edges, what lane i takes
+  unfoldable pub takenBy : ℕ → ℕ → ℕ
+  takenBy k i = gather (rules (i + 1) .join) (rules (i + 1) .links .into? v)
+      (λ e. rules (i + 1) .carry v e (cell cellPlace (rules (i + 1) .links .source e) (i + 1) table)) (cell cellPlace v (i + 1) table) k
+
+  pub taken-none : (row : List ℕ) → 1 ≤ v → Lanes row (λ i. getD table (16 * (v - 1) + i) 0) → Lanes row (takenBy 0)
+  unfolding takenBy
+  taken-none row l r = record { long = r .long; lane = λ i h. r .lane i h ∙ at-cell v i table l ∙ sym (gather-none (rules (i + 1) .join) (rules (i + 1) .links .into? v) _ _) }
+
+  -- edge e counts in lane i
+  taken-more : (e i : ℕ) → 1 ≤ e → rules (i + 1) .links .Into v e
+      → takenBy e i ≡ rules (i + 1) .join (takenBy (e - 1) i) (rules (i + 1) .carry v e (cell cellPlace (rules (i + 1) .links .source e) (i + 1) table))
+  unfolding takenBy
+  taken-more e i l x = take-last (rules (i + 1) .join) (rules (i + 1) .links .into? v) (λ d. rules (i + 1) .carry v d (cell cellPlace (rules (i + 1) .links .source d) (i + 1) table)) _ e l x
+
+  -- and it does not
+  taken-same : (e i : ℕ) → 1 ≤ e → ¬ (rules (i + 1) .links .Into v e) → takenBy e i ≡ takenBy (e - 1) i
+  unfolding takenBy
+  taken-same e i l x = skip-last (rules (i + 1) .join) (rules (i + 1) .links .into? v) _ _ e l x
+
+  module _ (edges : List ℕ) (m : ℕ) (into : (i e : ℕ) → rules i .links .Into v e → target edges e ≡ v) where
+    taken-pass : (row : List ℕ) → Passes (target edges) v m (λ k. Lanes row (takenBy k))
+    unfolding takenBy
+    taken-pass row j k l h none r = record { long = r .long; lane = λ i b. r .lane i b ∙ gather-idle (rules (i + 1) .join) (rules (i + 1) .links .into? v) _ _ j k l (λ d x y z. none d x y (into (i + 1) d z)) }
+
+    -- a turn of the walk, by what it does to each lane
+    taken-turn : {e x : ℕ} (row new : List ℕ) → Walking (target edges) v m e (λ k. Lanes row (takenBy k)) → e ≢ 0 → length new ≡ tableRow
+        → (1 ≤ e → target edges e ≡ v → (i : ℕ) → i < tableRow → getD row i 0 ≡ takenBy (e - 1) i → getD new i 0 ≡ takenBy e i)
+        → IsNext (target edges) (target edges e) e m x → Walking (target edges) v m x (λ k. Lanes new (takenBy k))
+    taken-turn {e} row new w h l turn n =
+        let (k, t) = walk-on w h in
+        walk-turn {P = λ k. Lanes row (takenBy k)} {Q = λ k. Lanes new (takenBy k)} w h (taken-pass row) (λ o. record { long = l; lane = λ i b. turn (k .low) t i b (o .lane i b) }) n
+
+    -- the end of the walk: the row takes its values
+    pub taken-end : {e : ℕ} (row : List ℕ) → ((i : ℕ) → rules i .links .m ≡ m) → Walking (target edges) v m e (λ k. Lanes row (takenBy k)) → e ≡ 0
+        → Lanes row (λ i. value (rules (i + 1)) (λ u. cell cellPlace u (i + 1) table) v)
+    unfolding takenBy value
+    taken-end row all w z =
+        let r = walk-end {P = λ k. Lanes row (takenBy k)} w z (taken-pass row) in
+        record { long = r .long; lane = λ i b. r .lane i b ∙ ap (λ (k : ℕ). takenBy k i) (sym (all (i + 1))) }
+
 -- ---- reach
 
-module _ (edges table : List ℕ) (v : ℕ) where
-  -- over the first k edges, what lane i takes
-  unfoldable pub raisedBy : ℕ → ℕ → ℕ
-  raisedBy k i = gather max (heldLinks k edges .into? v) (λ e. cell cellPlace (source edges e) (i + 1) table) (cell cellPlace v (i + 1) table) k
+-- a turn of the walk, over an edge from u
+pub raised-turn : (edges table : List ℕ) (v : ℕ) {m e x : ℕ} (u : ℕ) (row new : List ℕ) → Walking (target edges) v m e (λ k. Lanes row (takenBy table (λ _. raise m edges) v k)) → e ≢ 0
+    → u ≡ source edges e → 1 ≤ u → Lanes new (λ i. max (getD row i 0) (getD table (16 * (u - 1) + i) 0)) → IsNext (target edges) (target edges e) e m x
+    → Walking (target edges) v m x (λ k. Lanes new (takenBy table (λ _. raise m edges) v k))
+raised-turn edges table v {m} {e} u row new w h q s r n = taken-turn table (λ _. raise m edges) v edges m (λ _ _ y. y) row new w h (r .long)
+    (λ l t i b o. r .lane i b ∙ ap (λ (y : ℕ). max y (getD table (16 * (u - 1) + i) 0)) o
+    ∙ ap (max (takenBy table (λ _. raise m edges) v (e - 1) i)) (at-cell u i table s ∙ ap (λ (y : ℕ). cell cellPlace y (i + 1) table) q)
+    ∙ sym (taken-more table (λ _. raise m edges) v e i l t)) n
 
-  pub raised-none : (row : List ℕ) → 1 ≤ v → Lanes row (λ i. getD table (16 * (v - 1) + i) 0) → Lanes row (raisedBy 0)
-  unfolding raisedBy
-  raised-none row l r = record { long = r .long; lane = λ i h. r .lane i h ∙ at-cell v i table l ∙ sym (gather-none max _ _ _) }
+-- ---- distance and least walks
 
-  raised-pass : (m : ℕ) (row : List ℕ) → Passes (target edges) v m (λ k. Lanes row (raisedBy k))
-  unfolding raisedBy
-  raised-pass m row j k l h none r = record { long = r .long; lane = λ i b. r .lane i b ∙ gather-idle max (heldLinks k edges .into? v) _ _ j k l none }
+-- the nearer of a lane and of what an edge from u brings, by u's cell
+over-cell : (lengths table : List ℕ) (u i : ℕ) {x y : ℕ} → 1 ≤ u → x ≡ y
+    → closer x (shift (getD table (16 * (u - 1) + i) 0) (labelLength lengths u)) ≡ closer y (shift (cell cellPlace u (i + 1) table) (labelLength lengths u))
+over-cell lengths table u i {x} s e = ap (λ (z : ℕ). closer x (shift z (labelLength lengths u))) (at-cell u i table s) ∙ ap (λ (z : ℕ). closer z (shift (cell cellPlace u (i + 1) table) (labelLength lengths u))) e
 
-  raised-take : (e : ℕ) (row new : List ℕ) → 1 ≤ e → target edges e ≡ v → 1 ≤ source edges e → Lanes row (raisedBy (e - 1))
-      → Lanes new (λ i. max (getD row i 0) (getD table (16 * (source edges e - 1) + i) 0)) → Lanes new (raisedBy e)
-  unfolding raisedBy
-  raised-take e row new l x s r w = record {
-    long = w .long;
-    lane = λ i b. w .lane i b ∙ ap (λ (y : ℕ). max y (getD table (16 * (source edges e - 1) + i) 0)) (r .lane i b) ∙ ap (max (raisedBy (e - 1) i)) (at-cell (source edges e) i table s)
-        ∙ sym (take-last max (heldLinks e edges .into? v) (λ d. cell cellPlace (source edges d) (i + 1) table) _ e l x);
-  }
+-- a turn of the walk, over an edge from u: distance
+pub neared-turn : (lengths edges reach table : List ℕ) (v : ℕ) {m e x : ℕ} (u : ℕ) (row new : List ℕ)
+    → Walking (target edges) v m e (λ k. Lanes row (takenBy table (near m lengths edges reach) v k)) → e ≢ 0 → u ≡ source edges e → 1 ≤ u → 1 ≤ v
+    → Lanes new (λ i. closer (getD row i 0) (brought (getD table (16 * (u - 1) + i) 0) (labelLength lengths u) (getD reach (16 * (u - 1) + i) 0) (getD reach (16 * (v - 1) + i) 0)))
+    → IsNext (target edges) (target edges e) e m x → Walking (target edges) v m x (λ k. Lanes new (takenBy table (near m lengths edges reach) v k))
+neared-turn lengths edges reach table v {m} {e} u row new w h q s lv r n = taken-turn table (near m lengths edges reach) v edges m (λ _ _ y. y .0) row new w h (r .long)
+    (λ l t i b o. r .lane i b ∙ go i l t o (ℕ-discrete (cell cellPlace u (i + 1) reach) (cell cellPlace v (i + 1) reach))) n
+  where
+    go : (i : ℕ) → 1 ≤ e → target edges e ≡ v → getD row i 0 ≡ takenBy table (near m lengths edges reach) v (e - 1) i → Dec (cell cellPlace u (i + 1) reach ≡ cell cellPlace v (i + 1) reach)
+        → closer (getD row i 0) (brought (getD table (16 * (u - 1) + i) 0) (labelLength lengths u) (getD reach (16 * (u - 1) + i) 0) (getD reach (16 * (v - 1) + i) 0)) ≡ takenBy table (near m lengths edges reach) v e i
+    go i l t o (yes p) =
+        ap (λ (y : ℕ). closer (getD row i 0) y) (brought-level _ _ _ _ (at-cell u i reach s ∙ p ∙ sym (at-cell v i reach lv)))
+        ∙ over-cell lengths table u i s o
+        ∙ ap (λ (y : ℕ). closer (takenBy table (near m lengths edges reach) v (e - 1) i) (shift (cell cellPlace y (i + 1) table) (labelLength lengths y))) q
+        ∙ sym (taken-more table (near m lengths edges reach) v e i l (t, sym (ap (λ (y : ℕ). cell cellPlace y (i + 1) reach) q) ∙ p))
+    go i l t o (no d) =
+        ap (λ (y : ℕ). closer (getD row i 0) y) (brought-none _ _ _ _ (λ p. d (sym (at-cell u i reach s) ∙ p ∙ at-cell v i reach lv)))
+        ∙ closer-none _ ∙ o
+        ∙ sym (taken-same table (near m lengths edges reach) v e i l (λ y. d (ap (λ (z : ℕ). cell cellPlace z (i + 1) reach) q ∙ y .1)))
 
-  -- a turn of the walk, over an edge from u
-  pub raised-turn : {m e x : ℕ} (u : ℕ) (row new : List ℕ) → Walking (target edges) v m e (λ k. Lanes row (raisedBy k)) → e ≢ 0 → u ≡ source edges e → 1 ≤ u
-      → Lanes new (λ i. max (getD row i 0) (getD table (16 * (u - 1) + i) 0)) → IsNext (target edges) (target edges e) e m x → Walking (target edges) v m x (λ k. Lanes new (raisedBy k))
-  raised-turn {m} {e} u row new w h q s r n =
-      let (k, t) = walk-on w h in
-      walk-turn {P = λ k. Lanes row (raisedBy k)} {Q = λ k. Lanes new (raisedBy k)} w h (raised-pass m row)
-      (λ o. raised-take e row new (k .low) t (omega arith) o (subst (λ (y : ℕ). Lanes new (λ i. max (getD row i 0) (getD table (16 * (y - 1) + i) 0))) q r)) n
-
-  -- the end of the walk: the row takes its values
-  pub raised-end : {m e : ℕ} (row : List ℕ) → Walking (target edges) v m e (λ k. Lanes row (raisedBy k)) → e ≡ 0 → Lanes row (λ i. value (raise m edges) (λ u. cell cellPlace u (i + 1) table) v)
-  unfolding raisedBy value
-  raised-end {m} row w z = walk-end {P = λ k. Lanes row (raisedBy k)} w z (raised-pass m row)
-
--- ---- distance
-
-module _ (lengths edges reach table : List ℕ) (v : ℕ) where
-  -- over the first k edges, what lane i takes
-  unfoldable pub nearedBy : ℕ → ℕ → ℕ
-  nearedBy k i = gather closer (heldLevels k edges (λ u. cell cellPlace u (i + 1) reach) .into? v)
-      (λ e. shift (cell cellPlace (source edges e) (i + 1) table) (labelLength lengths (source edges e))) (cell cellPlace v (i + 1) table) k
-
-  pub neared-none : (row : List ℕ) → 1 ≤ v → Lanes row (λ i. getD table (16 * (v - 1) + i) 0) → Lanes row (nearedBy 0)
-  unfolding nearedBy
-  neared-none row l r = record { long = r .long; lane = λ i h. r .lane i h ∙ at-cell v i table l ∙ sym (gather-none closer (heldLevels 0 edges (λ u. cell cellPlace u (i + 1) reach) .into? v) _ _) }
-
-  neared-pass : (m : ℕ) (row : List ℕ) → Passes (target edges) v m (λ k. Lanes row (nearedBy k))
-  unfolding nearedBy
-  neared-pass m row j k l h none r = record { long = r .long; lane = λ i b. r .lane i b ∙ gather-idle closer (heldLevels k edges (λ u. cell cellPlace u (i + 1) reach) .into? v) _ _ j k l (λ d x y z. none d x y (z .0)) }
-
-  neared-take : (e : ℕ) (row new : List ℕ) → 1 ≤ e → target edges e ≡ v → 1 ≤ source edges e → 1 ≤ v → Lanes row (nearedBy (e - 1))
-      → Lanes new (λ i. closer (getD row i 0) (brought (getD table (16 * (source edges e - 1) + i) 0) (labelLength lengths (source edges e)) (getD reach (16 * (source edges e - 1) + i) 0) (getD reach (16 * (v - 1) + i) 0)))
-      → Lanes new (nearedBy e)
-  unfolding nearedBy
-  neared-take e row new l x s lv r w = record { long = w .long; lane = λ i b. w .lane i b ∙ go i (r .lane i b) (ℕ-discrete (cell cellPlace (source edges e) (i + 1) reach) (cell cellPlace v (i + 1) reach)) }
-    where
-      go : (i : ℕ) → getD row i 0 ≡ nearedBy (e - 1) i → Dec (cell cellPlace (source edges e) (i + 1) reach ≡ cell cellPlace v (i + 1) reach)
-          → closer (getD row i 0) (brought (getD table (16 * (source edges e - 1) + i) 0) (labelLength lengths (source edges e)) (getD reach (16 * (source edges e - 1) + i) 0) (getD reach (16 * (v - 1) + i) 0)) ≡ nearedBy e i
-      go i q (yes p) =
-          ap (λ (y : ℕ). closer (getD row i 0) y) (brought-level _ _ _ _ (at-cell (source edges e) i reach s ∙ p ∙ sym (at-cell v i reach lv)) ∙ ap (λ (y : ℕ). shift y (labelLength lengths (source edges e))) (at-cell (source edges e) i table s))
-          ∙ ap (λ (y : ℕ). closer y (shift (cell cellPlace (source edges e) (i + 1) table) (labelLength lengths (source edges e)))) q
-          ∙ sym (take-last closer (heldLevels e edges (λ u. cell cellPlace u (i + 1) reach) .into? v) (λ d. shift (cell cellPlace (source edges d) (i + 1) table) (labelLength lengths (source edges d))) _ e l (x, p))
-      go i q (no d) =
-          ap (λ (y : ℕ). closer (getD row i 0) y) (brought-none _ _ _ _ (λ p. d (sym (at-cell (source edges e) i reach s) ∙ p ∙ at-cell v i reach lv)))
-          ∙ closer-none _ ∙ q
-          ∙ sym (skip-last closer (heldLevels e edges (λ u. cell cellPlace u (i + 1) reach) .into? v) _ _ e l (λ y. d (y .1)))
-
-  -- a turn of the walk, over an edge from u
-  pub neared-turn : {m e x : ℕ} (u : ℕ) (row new : List ℕ) → Walking (target edges) v m e (λ k. Lanes row (nearedBy k)) → e ≢ 0 → u ≡ source edges e → 1 ≤ u → 1 ≤ v
-      → Lanes new (λ i. closer (getD row i 0) (brought (getD table (16 * (u - 1) + i) 0) (labelLength lengths u) (getD reach (16 * (u - 1) + i) 0) (getD reach (16 * (v - 1) + i) 0)))
-      → IsNext (target edges) (target edges e) e m x → Walking (target edges) v m x (λ k. Lanes new (nearedBy k))
-  neared-turn {m} {e} u row new w h q s lv r n =
-      let (k, t) = walk-on w h in
-      walk-turn {P = λ k. Lanes row (nearedBy k)} {Q = λ k. Lanes new (nearedBy k)} w h (neared-pass m row)
-      (λ o. neared-take e row new (k .low) t (omega arith) lv o (subst (λ (y : ℕ). Lanes new (λ i. closer (getD row i 0) (brought (getD table (16 * (y - 1) + i) 0) (labelLength lengths y) (getD reach (16 * (y - 1) + i) 0) (getD reach (16 * (v - 1) + i) 0)))) q r)) n
-
-  -- the end of the walk: the row takes its values
-  pub neared-end : {m e : ℕ} (row : List ℕ) → Walking (target edges) v m e (λ k. Lanes row (nearedBy k)) → e ≡ 0
-      → Lanes row (λ i. value (near m lengths edges reach (i + 1)) (λ u. cell cellPlace u (i + 1) table) v)
-  unfolding nearedBy value
-  neared-end {m} row w z = walk-end {P = λ k. Lanes row (nearedBy k)} w z (neared-pass m row)
+-- and least walks
+pub stepped-turn : (lengths edges table : List ℕ) (v : ℕ) {m e x : ℕ} (u : ℕ) (row new : List ℕ)
+    → Walking (target edges) v m e (λ k. Lanes row (takenBy table (onward m lengths edges) v k)) → e ≢ 0 → u ≡ source edges e → 1 ≤ u
+    → Lanes new (λ i. closer (getD row i 0) (shift (getD table (16 * (u - 1) + i) 0) (labelLength lengths u)))
+    → IsNext (target edges) (target edges e) e m x → Walking (target edges) v m x (λ k. Lanes new (takenBy table (onward m lengths edges) v k))
+stepped-turn lengths edges table v {m} {e} u row new w h q s r n = taken-turn table (onward m lengths edges) v edges m (λ _ _ y. y) row new w h (r .long)
+    (λ l t i b o. r .lane i b ∙ over-cell lengths table u i s o
+    ∙ ap (λ (y : ℕ). closer (takenBy table (onward m lengths edges) v (e - 1) i) (shift (cell cellPlace y (i + 1) table) (labelLength lengths y))) q
+    ∙ sym (taken-more table (onward m lengths edges) v e i l t)) n
 
 -- ---- a walk back
 
@@ -143,8 +150,7 @@ module _ (lengths edges table : List ℕ) (v i : ℕ) where
   back-take : (e x y : ℕ) → 1 ≤ e → target edges e ≡ v → 1 ≤ source edges e → y ≡ closer x (shift (getD table (16 * (source edges e - 1) + i) 0) (labelLength lengths (source edges e)))
       → x ≡ backBy lengths edges table v (i + 1) (e - 1) → y ≡ backBy lengths edges table v (i + 1) e
   unfolding backBy
-  back-take e x y l t s w r = w ∙ ap (λ (z : ℕ). closer x (shift z (labelLength lengths (source edges e)))) (at-cell (source edges e) i table s)
-      ∙ ap (λ (z : ℕ). closer z (shift (cell cellPlace (source edges e) (i + 1) table) (labelLength lengths (source edges e)))) r
+  back-take e x y l t s w r = w ∙ over-cell lengths table (source edges e) i s r
       ∙ sym (take-last closer (heldLinks e edges .into? v) (λ d. shift (cell cellPlace (source edges d) (i + 1) table) (labelLength lengths (source edges d))) _ e l t)
 
   pub back-turn : {m e x : ℕ} (u y z : ℕ) → Walking (target edges) v m e (λ k. y ≡ backBy lengths edges table v (i + 1) k) → e ≢ 0 → u ≡ source edges e → 1 ≤ u

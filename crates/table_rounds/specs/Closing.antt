@@ -11,7 +11,7 @@ use Rattle.rounds.specs.Place.{cellPlace}
 use Rattle.rounds.specs.Table.{cell}
 use Rattle.cover.specs.TableRounds.{tableOf, home}
 use Rattle.table_rows.specs.HeldEdges.{source, target}
-use Rattle.table_rounds.specs.Held.{labelLength, heldLinks, nearRound, Settling}
+use Rattle.table_rounds.specs.Held.{labelLength, heldLinks, onward, onwardRound, Settling}
 
 -- column i starts at the vertex base + i
 abbrev pub sixteenStart : ℕ → ℕ → List ℕ
@@ -23,16 +23,16 @@ backBy lengths edges table v i k =
     gather closer (heldLinks k edges .into? v) (λ e. shift (cell cellPlace (source edges e) i table) (labelLength lengths (source edges e))) 0 k
 
 -- d is the closed walk of v by what the rounds leave
-pub record ClosedBy (n m : ℕ) (lengths edges level : List ℕ) (v d : ℕ) : Type 0 where
+pub record ClosedBy (n m : ℕ) (lengths edges : List ℕ) (v d : ℕ) : Type 0 where
   pub base : ℕ
   pub i : ℕ
   pub column : Within tableRow i
   pub is : v ≡ base + i
   pub count : ℕ
   pub last : List ℕ
-  pub rounds : Rounds (nearRound n m lengths edges level) (sixteenStart n base) count last
+  pub rounds : Rounds (onwardRound n m lengths edges) (sixteenStart n base) count last
   pub closes : d ≡ backBy lengths edges last v i m - 1
 
 -- the rounds from any sixteen vertices end, and every state fits
-pub record Closable (n m : ℕ) (lengths edges level : List ℕ) : Type 0 where
-  pub settling : (base : ℕ) → base < n → Settling n m lengths edges level (sixteenStart n base)
+pub record Closable (n m : ℕ) (lengths edges : List ℕ) : Type 0 where
+  pub settling : (base : ℕ) → base < n → Settling n lengths (onward m lengths edges) (sixteenStart n base)

@@ -82,11 +82,23 @@ nearRow m lengths edges reach = rowStep cellPlace (near m lengths edges reach) t
 abbrev pub nearRound : ℕ → ℕ → List ℕ → List ℕ → List ℕ → List ℕ → List ℕ
 nearRound n m lengths edges reach = tableRound cellPlace (near m lengths edges reach) tableRow n
 
+-- the least of its own and u's entry plus L(u) over all edges u to v, in every column: the rule of least walks
+abbrev pub onward : ℕ → List ℕ → List ℕ → ℕ → Rule
+onward m lengths edges _ = leastRule (heldLinks m edges) (λ e. labelLength lengths (source edges e))
+
+-- vertex v is taken by it
+abbrev pub onwardRow : ℕ → List ℕ → List ℕ → ℕ → List ℕ → List ℕ
+onwardRow m lengths edges = rowStep cellPlace (onward m lengths edges) tableRow
+
+-- a round of it
+abbrev pub onwardRound : ℕ → ℕ → List ℕ → List ℕ → List ℕ → List ℕ
+onwardRound n m lengths edges = tableRound cellPlace (onward m lengths edges) tableRow n
+
 -- an entry with the label of its vertex fits a number
 pub record Fitting (n : ℕ) (lengths table : List ℕ) : Type 0 where
   pub fits : (u i : ℕ) → Within n u → Within tableRow i → cell cellPlace u i table + labelLength lengths u < 2 ^ 32
 
--- the distance rounds from a table end, and every state on the way fits: after k rounds, and v rows of the next
-pub record Settling (n m : ℕ) (lengths edges reach table : List ℕ) : Type 0 where
-  pub ends : Ends n (nearRound n m lengths edges reach) table
-  pub fitting : (k v : ℕ) → v < n → Fitting n lengths (sweep (nearRow m lengths edges reach) v (iterate (nearRound n m lengths edges reach) k table))
+-- the rounds by rules, one for each column, end from a table, and every state on the way fits: after k rounds, and v rows of the next
+pub record Settling (n : ℕ) (lengths : List ℕ) (rules : ℕ → Rule) (table : List ℕ) : Type 0 where
+  pub ends : Ends n (tableRound cellPlace rules tableRow n) table
+  pub fitting : (k v : ℕ) → v < n → Fitting n lengths (sweep (rowStep cellPlace rules tableRow) v (iterate (tableRound cellPlace rules tableRow n) k table))

@@ -114,7 +114,7 @@ pub fn settle_distance(
     requires { ⌜ Linked (now edges) (now heads) (now nexts) ⌝ }
     requires { ⌜ length (now heads) ≤ length (now lengths) ⌝ }
     requires { ⌜ (length (now table) ≡ tableRow * length (now heads)) × (length (now reach) ≡ tableRow * length (now heads)) ⌝ }
-    requires { ⌜ Settling (length (now heads)) (length (now nexts)) (now lengths) (now edges) (now reach) (now table) ⌝ }
+    requires { ⌜ Settling (length (now heads)) (now lengths) (near (length (now nexts)) (now lengths) (now edges) (now reach)) (now table) ⌝ }
     ensures { λ r. ⌜ Rounds (nearRound (length (now (heads .entry))) (length (now (nexts .entry))) (now (lengths .entry)) (now (edges .entry)) (now (reach .entry))) (now (table .entry)) r (now (table .exit)) ⌝ }
 {
     let mut count = 0;

@@ -22,7 +22,7 @@ use Rattle.rounds.proofs.Turns.{Swept}
 use mathlib.Core.Bool.{Bool}
 use Rattle.rounds.proofs.Gather.{value-ext}
 use Rattle.rounds.proofs.Table.{cell-places, row-rest}
-use Rattle.table_rows.specs.Lanes.{Lanes, brought, putCell, putRow}
+use Rattle.table_rows.specs.Lanes.{Lanes, howFar, brought, putCell, putRow}
 
 -- ---- a loop that fills a row lane by lane
 
@@ -61,21 +61,35 @@ pub brought-none : (x far there here : ℕ) → there ≢ here → brought x far
 unfolding brought
 brought-none x far there here d = if-neg (ℕ-discrete there here) d _ _
 
+-- how far an entry is, by whether it is known
+pub far-none : (x : ℕ) → x ≡ 0 → howFar x ≡ 4294967295
+unfolding howFar
+far-none zero e = refl
+far-none (suc x) e = absurd (omega arith)
+
+pub far-some : (x : ℕ) → 1 ≤ x → x ≡ howFar x + 1
+unfolding howFar
+far-some zero l = absurd (omega arith)
+far-some (suc x) l = omega arith
+
+-- the nearer of two entries, by how far they are
+pub closer-second : (x y : ℕ) → x < 4294967296 → howFar y < howFar x → closer x y ≡ y
+unfolding closer howFar
+closer-second zero y b h = refl
+closer-second (suc x) zero b h = absurd (omega arith)
+closer-second (suc x) (suc y) b h = omega arith
+
+pub closer-stays : (x y : ℕ) → y < 4294967296 → (howFar y < howFar x → ⊥) → closer x y ≡ x
+unfolding closer howFar
+closer-stays zero zero b h = refl
+closer-stays zero (suc y) b h = absurd (h (omega arith))
+closer-stays (suc x) zero b h = refl
+closer-stays (suc x) (suc y) b h = omega arith
+
 pub closer-none : (x : ℕ) → closer x 0 ≡ x
 unfolding closer
 closer-none zero = refl
 closer-none (suc x) = refl
-
-pub closer-first : (y : ℕ) → closer 0 y ≡ y
-unfolding closer
-closer-first y = refl
-
--- of two that are known
-pub closer-known : (x y : ℕ) → 1 ≤ x → 1 ≤ y → closer x y ≡ min x y
-unfolding closer
-closer-known zero y l h = absurd (omega arith)
-closer-known (suc x) zero l h = absurd (omega arith)
-closer-known (suc x) (suc y) l h = omega arith
 
 pub closer-both : {r a b x y : ℕ} → r ≡ closer a b → a ≡ x → b ≡ y → r ≡ closer x y
 closer-both e p q = rw (← p, ← q) e

@@ -1,5 +1,5 @@
 -- A row of sixteen cells by itself, and as it is written into a table.
-use Prim.Native.Nat.{ℕ, _-_, _<_}
+use Prim.Native.Nat.{ℕ, zero, suc, _-_, _<_}
 use mathlib.Core.Path.{_≡_}
 use mathlib.Core.Logic.{ite}
 use mathlib.Core.List.{List}
@@ -14,6 +14,11 @@ use Rattle.rounds.specs.Kinds.{shift}
 pub record Lanes (row : List ℕ) (f : ℕ → ℕ) : Type 0 where
   pub long : length row ≡ tableRow
   pub lane : (i : ℕ) → i < tableRow → getD row i 0 ≡ f i
+
+-- how far a distance entry is: 0 is unknown, and counts as the greatest number of 32 bits; d + 1 is the distance d
+unfoldable pub howFar : ℕ → ℕ
+howFar zero = 4294967295
+howFar (suc d) = d
 
 -- what an edge brings to a distance entry: x, `far` further on, where the reach cells of its two vertices are equal, else nothing
 unfoldable pub brought : ℕ → ℕ → ℕ → ℕ → ℕ

@@ -8,7 +8,7 @@ ghost use Rattle.rounds.specs.Rounds.{Within};
 ghost use Rattle.rounds.specs.Place.{cellPlace};
 ghost use Rattle.rounds.specs.Kinds.{shift, closer};
 ghost use Rattle.rounds.specs.Loop.{Told, RowMoved};
-ghost use Rattle.table_rows.specs.Lanes.{Lanes, brought, putRow};
+ghost use Rattle.table_rows.specs.Lanes.{Lanes, howFar, brought, putRow};
 
 // A number as a place.
 pub fn wide(x: u32) -> usize
@@ -24,17 +24,18 @@ fn larger(x: u32, y: u32) -> u32
     if x < y { y } else { x }
 }
 
-// The nearer of two distance entries: 0 is unknown, d + 1 is the distance d.
+// How far a distance entry is: 0 is unknown and further than any distance, d + 1 is the distance d.
+fn how_far(x: u32) -> u32
+    ensures { λ r. ⌜ r ≡ howFar x ⌝ }
+{
+    if x == 0 { u32::MAX } else { x - 1 }
+}
+
+// The nearer of two distance entries.
 pub fn nearer(x: u32, y: u32) -> u32
     ensures { λ r. ⌜ r ≡ closer x y ⌝ }
 {
-    if y == 0 {
-        return x;
-    }
-    if x == 0 {
-        return y;
-    }
-    if y < x { y } else { x }
+    if how_far(y) < how_far(x) { y } else { x }
 }
 
 // A distance entry, `far` further on.
@@ -99,6 +100,18 @@ pub fn neared_row(
     row
 }
 
+// The nearest of a row and of what an edge of length `far` brings from the row at the place `at`, in every column.
+pub fn stepped_row(mut row: [u32; 16], table: &[u32], at: usize, far: u32) -> [u32; 16]
+    requires { ⌜ at + tableRow ≤ length (now table) ⌝ }
+    requires { ⌜ ((i : ℕ) → i < tableRow → getD (now table) (at + i) 0 + far < 2 ^ 32) ⌝ }
+    ensures { λ r. ⌜ Lanes r (λ i. closer (getD row i 0) (shift (getD (now (table .entry)) (at + i) 0) far)) ⌝ }
+{
+    for i in 0..ROW {
+        row[i] = nearer(row[i], further(table[at + i], far));
+    }
+    row
+}
+
 // Writes a row as the row of vertex v, and says whether a cell of it changed.
 pub fn store_row(table: &mut [u32], v: usize, row: [u32; 16]) -> bool
     requires { ⌜ (1 ≤ v) × (tableRow * v ≤ length (now table)) ⌝ }
@@ -108,8 +121,9 @@ pub fn store_row(table: &mut [u32], v: usize, row: [u32; 16]) -> bool
     let mut changed = false;
     for i in 0..ROW {
         let at = ROW * (v - 1) + i;
-        if table[at] != row[i] {
-            table[at] = row[i];
+        let old = table[at];
+        table[at] = row[i];
+        if old != row[i] {
             changed = true;
         }
     }

@@ -37,7 +37,7 @@ use Rattle.cover.proofs.ClosedRounds.{walks-settle, closed-is}
 use Rattle.cover.proofs.TablesThere.{walk-begins, walk-keeps, tables-made}
 use Rattle.table_rows.specs.Lists.{Listed}
 use Rattle.table_rows.specs.HeldEdges.{source, target, Held, Linked}
-use Rattle.table_rounds.specs.Held.{labelLength, pathIn, PathsHeld, Holds, heldLinks, heldLevels, raise, raiseRound, near, nearRow, nearRound, Fitting, Settling}
+use Rattle.table_rounds.specs.Held.{labelLength, pathIn, PathsHeld, Holds, heldLinks, heldLevels, raise, raiseRound, near, nearRow, nearRound, onward, onwardRow, onwardRound, Fitting, Settling}
 use Rattle.table_rounds.specs.Closing.{sixteenStart, backBy, ClosedBy, Closable}
 use Rattle.table_rounds.proofs.Starts.{table-ext, homesIn}
 use Rattle.tables.proofs.Same.{Alike, gather-same, row-alike}
@@ -141,7 +141,7 @@ module _ {g : Graph} {lengths edges paths counts : List ℕ} (H : Holds g (verte
       home-take (getD counts (i - 1) 0) (drop (pathRoom * (i - 1)) paths) (cell cellPlace v i reach) v (rw (H .pathsAre i k) (reach-within (R .cells v i w k)))
       ∙ ap (λ (p : List ℕ). home p (cell cellPlace v i reach) v) (H .pathsAre i k))
 
-  distance-settling : (reach : List ℕ) → ReachTable g (pathAt g) reach → Settling (vertexCount g) (edgeCount g) lengths edges reach (tableOf (vertexCount g) (homesIn paths reach))
+  distance-settling : (reach : List ℕ) → ReachTable g (pathAt g) reach → Settling (vertexCount g) lengths (near (edgeCount g) lengths edges reach) (tableOf (vertexCount g) (homesIn paths reach))
   distance-settling reach R = record {
     ends = rw (near-rounds reach, distance-starts reach R) (settles-ends (distance-settles (H .good) R));
     fitting = λ k v h. rw (near-rows reach, distance-starts reach R) (low-fits _ (on-the-way (λ i. columnOver g reach i .rule) (distanceStart g reach) (distance-keeps (H .good) reach) (distance-begins (H .good) reach) k v h));
@@ -151,57 +151,56 @@ module _ {g : Graph} {lengths edges paths counts : List ℕ} (H : Holds g (verte
       → Rounds (distanceRound g reach) (distanceStart g reach) k t
   distance-made reach R r = rw (near-rounds reach, distance-starts reach R) at r
 
-  -- ---- closed walks, by levels that are equal everywhere
+  -- ---- closed walks
 
-  module _ (level : List ℕ) (flat : (q : ℕ) → getD level q 0 ≡ 0) where
-    walk-alike : (i : ℕ) (f : ℕ → ℕ) (v : ℕ) → value (near (edgeCount g) lengths edges level i) f v ≡ value (walkRule g) f v
-    unfolding value
-    walk-alike i f v = gather-same closer (near (edgeCount g) lengths edges level i .links .into? v) (walkRule g .links .into? v) _ _ (f v) (edgeCount g)
-        (λ e w. record {
-          left = λ x. (sym (H .tos e w) ∙ x .0, refl);
-          right = λ x. (H .tos e w ∙ x .0, flat _ ∙ sym (flat _));
-          same = ap (λ (u : ℕ). shift (f u) (labelLength lengths u)) (H .froms e w) ∙ ap (shift (f (from g e))) (H .labels (from g e) (edge-from (H .good) e w));
-        })
+  walk-alike : (i : ℕ) (f : ℕ → ℕ) (v : ℕ) → value (onward (edgeCount g) lengths edges i) f v ≡ value (walkRule g) f v
+  unfolding value
+  walk-alike i f v = gather-same closer (heldLinks (edgeCount g) edges .into? v) (walkRule g .links .into? v) _ _ (f v) (edgeCount g)
+      (λ e w. record {
+        left = λ x. (sym (H .tos e w) ∙ x, refl);
+        right = λ x. H .tos e w ∙ x .0;
+        same = ap (λ (u : ℕ). shift (f u) (labelLength lengths u)) (H .froms e w) ∙ ap (shift (f (from g e))) (H .labels (from g e) (edge-from (H .good) e w));
+      })
 
-    walk-rows : nearRow (edgeCount g) lengths edges level ≡ rowStep cellPlace (λ _. walkRule g) tableRow
-    walk-rows = row-alike cellPlace (near (edgeCount g) lengths edges level) (λ _. walkRule g) tableRow (λ i _. walk-alike i)
+  walk-rows : onwardRow (edgeCount g) lengths edges ≡ rowStep cellPlace (λ _. walkRule g) tableRow
+  walk-rows = row-alike cellPlace (onward (edgeCount g) lengths edges) (λ _. walkRule g) tableRow (λ i _. walk-alike i)
 
-    walk-rounds : nearRound (vertexCount g) (edgeCount g) lengths edges level ≡ walkRound g
-    walk-rounds = ap (λ (row : ℕ → List ℕ → List ℕ). sweep row (vertexCount g)) walk-rows
+  walk-rounds : onwardRound (vertexCount g) (edgeCount g) lengths edges ≡ walkRound g
+  walk-rounds = ap (λ (row : ℕ → List ℕ → List ℕ). sweep row (vertexCount g)) walk-rows
 
-    closable-here : Closable (vertexCount g) (edgeCount g) lengths edges level
-    closable-here = record {
-      settling = λ base _. record {
-        ends = rw walk-rounds (settles-ends (walks-settle (H .good) (λ i. base + i)));
-        fitting = λ k v h. rw walk-rows (low-fits _ (on-the-way (λ _. walkRule g) (sixteenStart (vertexCount g) base) (walk-keeps (H .good)) (walk-begins (H .good) (λ i. base + i)) k v h));
-      };
-    }
+  closable-here : Closable (vertexCount g) (edgeCount g) lengths edges
+  closable-here = record {
+    settling = λ base _. record {
+      ends = rw walk-rounds (settles-ends (walks-settle (H .good) (λ i. base + i)));
+      fitting = λ k v h. rw walk-rows (low-fits _ (on-the-way (λ _. walkRule g) (sixteenStart (vertexCount g) base) (walk-keeps (H .good)) (walk-begins (H .good) (λ i. base + i)) k v h));
+    };
+  }
 
-    back-is : (table : List ℕ) (v i : ℕ) → backBy lengths edges table v i (edgeCount g) ≡ roundTrip g (λ u. cell cellPlace u i table) v (edgeCount g)
-    unfolding backBy roundTrip
-    back-is table v i = gather-same closer (heldLinks (edgeCount g) edges .into? v) (edgeLinks g .into? v) _ _ 0 (edgeCount g)
-        (λ e w. record {
-          left = λ x. sym (H .tos e w) ∙ x;
-          right = λ x. H .tos e w ∙ x;
-          same = ap (λ (u : ℕ). shift (cell cellPlace u i table) (labelLength lengths u)) (H .froms e w) ∙ ap (shift (cell cellPlace (from g e) i table)) (H .labels (from g e) (edge-from (H .good) e w));
-        })
+  back-is : (table : List ℕ) (v i : ℕ) → backBy lengths edges table v i (edgeCount g) ≡ roundTrip g (λ u. cell cellPlace u i table) v (edgeCount g)
+  unfolding backBy roundTrip
+  back-is table v i = gather-same closer (heldLinks (edgeCount g) edges .into? v) (edgeLinks g .into? v) _ _ 0 (edgeCount g)
+      (λ e w. record {
+        left = λ x. sym (H .tos e w) ∙ x;
+        right = λ x. H .tos e w ∙ x;
+        same = ap (λ (u : ℕ). shift (cell cellPlace u i table) (labelLength lengths u)) (H .froms e w) ∙ ap (shift (cell cellPlace (from g e) i table)) (H .labels (from g e) (edge-from (H .good) e w));
+      })
 
-    closed-here : {v d : ℕ} → ClosedBy (vertexCount g) (edgeCount g) lengths edges level v d → IsClosed g v d
-    closed-here {v} {d} C =
-        let T = settled (walks-settle (H .good) (λ i. C .base + i)) (rw walk-rounds at (C .rounds)) .2 in
-        let c : IsClosed g (C .base + C .i) (closedBy g (λ u. cell cellPlace u (C .i) (C .last)) (C .base + C .i)) = closed-is g (edge-from (H .good)) (C .base + C .i) (λ u. cell cellPlace u (C .i) (C .last)) (λ u w. T .cells u (C .i) w (C .column)) in
-        let e : d ≡ closedBy g (λ u. cell cellPlace u (C .i) (C .last)) v = C .closes ∙ ap (λ (x : ℕ). x - 1) (back-is (C .last) v (C .i)) in
-        subst (IsClosed g v) (sym e) (subst (λ (u : ℕ). IsClosed g u (closedBy g (λ u. cell cellPlace u (C .i) (C .last)) u)) (sym (C .is)) c)
+  closed-here : {v d : ℕ} → ClosedBy (vertexCount g) (edgeCount g) lengths edges v d → IsClosed g v d
+  closed-here {v} {d} C =
+      let T = settled (walks-settle (H .good) (λ i. C .base + i)) (rw walk-rounds at (C .rounds)) .2 in
+      let c : IsClosed g (C .base + C .i) (closedBy g (λ u. cell cellPlace u (C .i) (C .last)) (C .base + C .i)) = closed-is g (edge-from (H .good)) (C .base + C .i) (λ u. cell cellPlace u (C .i) (C .last)) (λ u w. T .cells u (C .i) w (C .column)) in
+      let e : d ≡ closedBy g (λ u. cell cellPlace u (C .i) (C .last)) v = C .closes ∙ ap (λ (x : ℕ). x - 1) (back-is (C .last) v (C .i)) in
+      subst (IsClosed g v) (sym e) (subst (λ (u : ℕ). IsClosed g u (closedBy g (λ u. cell cellPlace u (C .i) (C .last)) u)) (sym (C .is)) c)
 
-    -- ---- the tables
+  -- ---- the tables
 
-    tables-here : {reach entries closed : List ℕ} {j k : ℕ} → Rounds (raiseRound (vertexCount g) (edgeCount g) edges) (ownStart (vertexCount g) paths counts) j reach
-        → Rounds (nearRound (vertexCount g) (edgeCount g) lengths edges reach) (tableOf (vertexCount g) (homesIn paths reach)) k entries
-        → length closed ≡ vertexCount g → ((v : ℕ) → Within (vertexCount g) v → ClosedBy (vertexCount g) (edgeCount g) lengths edges level v (entry v closed))
-        → IsTables g (record { reach = reach; distance = known entries; closed = closed; reachRounds = j; distanceRounds = k })
-    tables-here {reach} r d l c =
-        let R = settled (reach-settles (H .good)) (reach-made r) .2 in
-        tables-made (H .good) (reach-made r) (distance-made reach R d) l (λ v w. closed-here (c v w))
+  tables-here : {reach entries closed : List ℕ} {j k : ℕ} → Rounds (raiseRound (vertexCount g) (edgeCount g) edges) (ownStart (vertexCount g) paths counts) j reach
+      → Rounds (nearRound (vertexCount g) (edgeCount g) lengths edges reach) (tableOf (vertexCount g) (homesIn paths reach)) k entries
+      → length closed ≡ vertexCount g → ((v : ℕ) → Within (vertexCount g) v → ClosedBy (vertexCount g) (edgeCount g) lengths edges v (entry v closed))
+      → IsTables g (record { reach = reach; distance = known entries; closed = closed; reachRounds = j; distanceRounds = k })
+  tables-here {reach} r d l c =
+      let R = settled (reach-settles (H .good)) (reach-made r) .2 in
+      tables-made (H .good) (reach-made r) (distance-made reach R d) l (λ v w. closed-here (c v w))
 
 -- ---- the same by the numbers n and m that the code has
 
@@ -239,22 +238,21 @@ module _ {g : Graph} {n m : ℕ} {lengths edges paths counts : List ℕ} (H : Ho
             let a = rw e at (reach-within (reached .cells (q / 16 + 1) (q % 16 + 1) (within (omega arith) (omega (arith, reached .size))) (within (omega arith) (omega arith)))) in
             omega (arith, path-short (H .good) (q % 16 + 1), H .good .fewVertices)
 
-    pub holds-settling : Settling n m lengths edges reach (tableOf n (homesIn paths reach))
-    holds-settling = over (λ n m. Settling n m lengths edges reach (tableOf n (homesIn paths reach))) (distance-settling here reach reached)
+    pub holds-settling : Settling n lengths (near m lengths edges reach) (tableOf n (homesIn paths reach))
+    holds-settling = over (λ n m. Settling n lengths (near m lengths edges reach) (tableOf n (homesIn paths reach))) (distance-settling here reach reached)
 
-  module _ {level : List ℕ} (flat : (q : ℕ) → getD level q 0 ≡ 0) where
-    pub holds-closable : Closable n m lengths edges level
-    holds-closable = over (λ n m. Closable n m lengths edges level) (closable-here here level flat)
+  pub holds-closable : Closable n m lengths edges
+  holds-closable = over (λ n m. Closable n m lengths edges) (closable-here here)
 
-    pub holds-tables : {reach entries closed : List ℕ} {j k : ℕ} → Rounds (raiseRound n m edges) (ownStart n paths counts) j reach
-        → Rounds (nearRound n m lengths edges reach) (tableOf n (homesIn paths reach)) k entries
-        → length closed ≡ n → ((v : ℕ) → Within n v → ClosedBy n m lengths edges level v (entry v closed))
-        → IsTables g (record { reach = reach; distance = known entries; closed = closed; reachRounds = j; distanceRounds = k })
-    holds-tables {reach} {entries} {closed} {j} {k} r d l c = tables-here here level flat
-        (back (λ n m. Rounds (raiseRound n m edges) (ownStart n paths counts) j reach) r)
-        (back (λ n m. Rounds (nearRound n m lengths edges reach) (tableOf n (homesIn paths reach)) k entries) d)
-        (l ∙ sym (H .vertices))
-        (back (λ n m. (v : ℕ) → Within n v → ClosedBy n m lengths edges level v (entry v closed)) c)
+  pub holds-tables : {reach entries closed : List ℕ} {j k : ℕ} → Rounds (raiseRound n m edges) (ownStart n paths counts) j reach
+      → Rounds (nearRound n m lengths edges reach) (tableOf n (homesIn paths reach)) k entries
+      → length closed ≡ n → ((v : ℕ) → Within n v → ClosedBy n m lengths edges v (entry v closed))
+      → IsTables g (record { reach = reach; distance = known entries; closed = closed; reachRounds = j; distanceRounds = k })
+  holds-tables {reach} {entries} {closed} {j} {k} r d l c = tables-here here
+      (back (λ n m. Rounds (raiseRound n m edges) (ownStart n paths counts) j reach) r)
+      (back (λ n m. Rounds (nearRound n m lengths edges reach) (tableOf n (homesIn paths reach)) k entries) d)
+      (l ∙ sym (H .vertices))
+      (back (λ n m. (v : ℕ) → Within n v → ClosedBy n m lengths edges v (entry v closed)) c)
 
 -- ---- the lists, once they are made, are as long as they were
 

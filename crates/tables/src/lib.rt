@@ -77,7 +77,7 @@ pub fn cell_zeros() -> [u32; 16384]
     [0u32; 16384]
 }
 
-// Makes the tables, where the edges are listed by target. `scratch` is a table to work on, and `level` one that holds 0 everywhere.
+// Makes the tables, where the edges are listed by target. `scratch` is a table to work on.
 fn fill_tables(
     lengths: &[u32],
     edges: &[u32],
@@ -86,16 +86,14 @@ fn fill_tables(
     heads: &[u32],
     nexts: &[u32],
     scratch: &mut [u32],
-    level: &[u32],
     reach: &mut [u32],
     distance: &mut [u32],
     closed: &mut [u32],
 ) -> TableRounds
     requires { ⌜ Content (length (now heads)) (length (now nexts)) (now lengths) (now edges) (now paths) (now counts) ⌝ }
     requires { ⌜ Linked (now edges) (now heads) (now nexts) ⌝ }
-    requires { ⌜ (length (now scratch) ≡ tableRow * length (now heads)) × (length (now level) ≡ tableRow * length (now heads)) ⌝ }
+    requires { ⌜ length (now scratch) ≡ tableRow * length (now heads) ⌝ }
     requires { ⌜ (length (now reach) ≡ tableRow * length (now heads)) × (length (now distance) ≡ tableRow * length (now heads)) × (length (now closed) ≡ length (now heads)) ⌝ }
-    requires { ⌜ ((q : ℕ) → getD (now level) q 0 ≡ 0) ⌝ }
     ensures { λ r. ⌜ ((g : Graph) → Holds g (length (now (heads .entry))) (length (now (nexts .entry))) (now (lengths .entry)) (now (edges .entry)) (now (paths .entry)) (now (counts .entry)) → IsTables g (made (now (reach .exit)) (now (distance .exit)) (now (closed .exit)) r)) ⌝ }
 {
     let n = heads.len();
@@ -104,15 +102,15 @@ fn fill_tables(
     start_distance(distance, reach, paths, n);
     let b = settle_distance(distance, reach, lengths, edges, heads, nexts);
     finish_distance(distance);
-    closed_walks(closed, scratch, level, lengths, edges, heads, nexts);
+    closed_walks(closed, scratch, lengths, edges, heads, nexts);
     TableRounds {
         reach: a,
         distance: b,
     }
 }
 
-// Lists the edges by target, and makes the tables. `heads` has a place for each vertex, `nexts` one for each edge; `heads` and `level` are
-// lent with 0 everywhere.
+// Lists the edges by target, and makes the tables. `heads` has a place for each vertex, `nexts` one for each edge; `heads` is lent
+// with 0 everywhere.
 fn list_and_fill(
     lengths: &[u32],
     edges: &[u32],
@@ -121,16 +119,14 @@ fn list_and_fill(
     heads: &mut [u32],
     nexts: &mut [u32],
     scratch: &mut [u32],
-    level: &[u32],
     reach: &mut [u32],
     distance: &mut [u32],
     closed: &mut [u32],
 ) -> TableRounds
     requires { ⌜ Content (length (now heads)) (length (now nexts)) (now lengths) (now edges) (now paths) (now counts) ⌝ }
-    requires { ⌜ (length (now scratch) ≡ tableRow * length (now heads)) × (length (now level) ≡ tableRow * length (now heads)) ⌝ }
+    requires { ⌜ length (now scratch) ≡ tableRow * length (now heads) ⌝ }
     requires { ⌜ (length (now reach) ≡ tableRow * length (now heads)) × (length (now distance) ≡ tableRow * length (now heads)) × (length (now closed) ≡ length (now heads)) ⌝ }
     requires { ⌜ ((q : ℕ) → getD (now heads) q 0 ≡ 0) ⌝ }
-    requires { ⌜ ((q : ℕ) → getD (now level) q 0 ≡ 0) ⌝ }
     ensures { λ r. ⌜ ((g : Graph) → Holds g (length (now (heads .entry))) (length (now (nexts .entry))) (now (lengths .entry)) (now (edges .entry)) (now (paths .entry)) (now (counts .entry)) → IsTables g (made (now (reach .exit)) (now (distance .exit)) (now (closed .exit)) r)) ⌝ }
 {
     list_by_target(edges, heads, nexts);
@@ -142,7 +138,6 @@ fn list_and_fill(
         heads,
         nexts,
         scratch,
-        level,
         reach,
         distance,
         closed,
@@ -168,7 +163,6 @@ pub fn make_tables(
     let mut heads = vertex_zeros();
     let mut nexts = edge_zeros();
     let mut scratch = cell_zeros();
-    let level = cell_zeros();
     list_and_fill(
         lengths,
         edges,
@@ -177,7 +171,6 @@ pub fn make_tables(
         &mut heads[..n],
         &mut nexts[..m],
         &mut scratch[..ROW * n],
-        &level[..ROW * n],
         reach,
         distance,
         closed,

@@ -16,7 +16,7 @@ use Rattle.anchors_read.proofs.read_anchors.Statement.{statement}
 use Rattle.anchors_read.proofs.read_anchors.Tie as tie
 use Rattle.anchors_read.proofs.read_anchors.Reads as reads
 use Rattle.anchors_read.proofs.read_anchors.Lts as lts
-use Rattle.anchors.proofs.check_anchors.Reads as check-anchors-reads
+use Rattle.anchors_check.proofs.check_anchors.Reads as check-anchors-reads
 use Rattle.anchors_read.proofs.acceptance.Reads as acceptance-reads
 use Rattle.anchors_read.proofs.fills.fill_anchors.Reads as fill-anchors-reads
 use Rattle.anchors_read.proofs.fills.fill_read.Reads as fill-read-reads

@@ -11,9 +11,9 @@ use Rattle.graph.specs.Reading.{graphOf}
 use Rattle.graph.proofs.Faulty.{graph-fault}
 use Rattle.anchors.specs.AnchorBytes.{encodeAnchors}
 use Rattle.anchors.specs.AnchorEntries.{AnchorsGiven, roomyAnchors}
-use Rattle.anchors.specs.LabelTables.{LabelsAt, contentOf}
+use Rattle.anchors_check.specs.LabelTables.{LabelsAt, contentOf}
 use Rattle.anchors.proofs.AnchorRooms.{full-buffers}
-use Rattle.anchors.proofs.BothLaws.{checked-fault, graph-told}
+use Rattle.anchors_check.proofs.BothLaws.{checked-fault, graph-told}
 use Rattle.anchors_write.specs.InPlaces.{setIn}
 use Rattle.anchors_write.specs.FirstFaults.{contentFault}
 use Rattle.anchors_write.proofs.ContentSteps.{content-ranged}
@@ -29,7 +29,7 @@ use Rattle.anchors_write.proofs.bytes.put_anchors.Reads as put-anchors-
 use Rattle.anchors_write.proofs.content.content_fault.Reads as content-fault-reads
 use Rattle.anchors_write.proofs.full_buffers.Reads as full-buffers-reads
 use Rattle.anchors_write.proofs.refusal.Reads as refusal-reads
-use Rattle.graph.proofs.check_graph.Reads as check-graph-reads
+use Rattle.graph_check.proofs.check_graph.Reads as check-graph-reads
 
 -- the content that is given
 abbrev given : tie.Start → AnchorsGiven

@@ -13,7 +13,7 @@ use Rattle.graph_read.proofs.read_graph.Statement.{statement}
 use Rattle.graph_read.proofs.read_graph.Tie as tie
 use Rattle.graph_read.proofs.read_graph.Reads as reads
 use Rattle.graph_read.proofs.read_graph.Lts as lts
-use Rattle.graph.proofs.check_graph.Reads as check-graph-reads
+use Rattle.graph_check.proofs.check_graph.Reads as check-graph-reads
 use Rattle.graph_read.proofs.acceptance.Reads as acceptance-reads
 use Rattle.graph_read.proofs.edges.fill_edges.Reads as fill-edges-reads
 use Rattle.graph_read.proofs.labels.fill_labels.Reads as fill-labels-reads

@@ -7,8 +7,8 @@ use borrow.Author.Tests.{not-true, not-false}
 use lib.ListN.{length}
 use Rattle.graph.specs.Encode.{encodeGraph}
 use Rattle.graph.specs.Entries.{Given}
-use Rattle.graph_write.specs.Used.{givenOf, graphIn}
-use Rattle.graph_write.specs.Faults.{contentFault}
+use Rattle.graph_content.specs.Used.{givenOf, graphIn}
+use Rattle.graph_content.specs.Faults.{contentFault}
 use Rattle.graph_write.specs.Answer.{fullSizes}
 use Rattle.graph_write.proofs.Replying.{sizes-full, reply-small, reply-fault, reply-long, reply-short, reply-good, written-not, written-all}
 use borrow.Author.Needs.{needs}
@@ -16,10 +16,10 @@ use Rattle.graph_write.proofs.write_graph.Statement.{statement}
 use Rattle.graph_write.proofs.write_graph.Tie as tie
 use Rattle.graph_write.proofs.write_graph.Reads as reads
 use Rattle.graph_write.proofs.write_graph.Lts as lts
-use Rattle.graph_write.proofs.content_fault.Reads as content-fault-reads
+use Rattle.graph_content.proofs.content_fault.Reads as content-fault-reads
 use Rattle.graph_write.proofs.full_buffers.Reads as full-buffers-reads
-use Rattle.graph_write.proofs.graph_size.Reads as graph-size-reads
-use Rattle.graph_write.proofs.put_graph.Reads as put-graph-reads
+use Rattle.graph_bytes.proofs.graph_size.Reads as graph-size-reads
+use Rattle.graph_bytes.proofs.put_graph.Reads as put-graph-reads
 use Rattle.graph_write.proofs.refusal.Reads as refusal-reads
 
 -- helpers

@@ -1,5 +1,6 @@
 use Prim.Native.Nat.{ℕ, _+_, _-_, _≤_}
 use mathlib.Core.List.{List}
+use mathlib.Core.Logic.{inl}
 use mathlib.Core.Path.{_≡_, refl, sym, ap, _∙_, subst}
 use native.Mathlib.Nat.{le-refl}
 use native.Mathlib.Omega.{arith}
@@ -9,6 +10,7 @@ use Rattle.rounds.specs.Rounds.{Within}
 use Rattle.wire.specs.Sizes.{mostAnchors}
 use Rattle.plain_engine.specs.Planning.{BestWhere, Taken}
 use Rattle.steps.specs.Setting.{Setting, settingOf}
+use Rattle.steps.specs.Rowing.{tables, Stands}
 use Rattle.steps.specs.Scores.{ScoresLow}
 use Rattle.plain_engine.proofs.PlainLaws.{place-first, places-done, zeroed-at, zeroed-low, places-cast, listed-cast}
 use Rattle.steps.proofs.HeldLaws.{room-kept}
@@ -16,11 +18,11 @@ use Rattle.plain_engine.proofs.plain_pass.Statement.{statement}
 use Rattle.plain_engine.proofs.plain_pass.Tie as tie
 
 abbrev Inv-loop : tie.InvT-loop
-Inv-loop n k count lengths paths reach distance closed numbers us ys ds heads nexts row₀ scores₀ places c₀ row scores c =
-    (c ≤ places) × (length row ≡ n) × ScoresLow (settingOf n k count lengths paths reach distance closed numbers us ys ds) scores × BestWhere (settingOf n k count lengths paths reach distance closed numbers us ys ds) scores (Taken (settingOf n k count lengths paths reach distance closed numbers us ys ds) (c + 1) 0)
+Inv-loop n k count lengths paths reach distance closed numbers us ys ds heads nexts row₀ scores₀ places stands₀ c₀ row scores stands c =
+    (c ≤ places) × (length row ≡ n) × Stands (tables n k lengths paths reach distance closed) stands row × ScoresLow (settingOf n k count lengths paths reach distance closed numbers us ys ds) scores × BestWhere (settingOf n k count lengths paths reach distance closed numbers us ys ds) scores (Taken (settingOf n k count lengths paths reach distance closed numbers us ys ds) (c + 1) 0)
 
 abbrev μ-loop : tie.MeasureT-loop
-μ-loop n k count lengths paths reach distance closed numbers us ys ds heads nexts row₀ scores₀ places c₀ row scores c = places - c
+μ-loop n k count lengths paths reach distance closed numbers us ys ds heads nexts row₀ scores₀ places stands₀ c₀ row scores stands c = places - c
 
 abbrev given : tie.Start Inv-loop μ-loop → Setting
 given k = let a = k .args in settingOf (a .n) (a .k) (a .count) (a .lengths .now) (a .paths .now) (a .reach .now) (a .distance .now) (a .closed .now) (a .numbers .now) (a .us .now) (a .ys .now) (a .ds .now)
@@ -48,6 +50,7 @@ loop-holds c =
     let k = c .before .before .before .before .before .before .before .before .before .before .before .before .before .before .before .before .before .before .before .before .before .before .before .before .before .before .before .before in (
       omega arith,
       k .pre .1 .1 .1,
+      inl refl,
       subst (ScoresLow (given k)) (sym (c .before .before .before .before .before .before .before .before .before .zero-rest-u322 .ensures)) (zeroed-low (given k) (k .args .scores .now) (k .pre .1 .1 .2)),
       place-first,
     )
@@ -65,12 +68,12 @@ take-place-requires c κs =
     let m = p .kept .1 .1 .0 ∙ k .pre .1 .1 .0 in (
       k .pre .0,
       (
-        l .inv .2,
+        l .inv .3,
         (
-          l .inv .3,
+          l .inv .4,
           (
             listed-cast (p .kept .1 .0) (sym (k .pre .1 .1 .0)) (p .ensures),
-            (subst (λ (t : ℕ). Within t (l .c + 1)) (sym h) (within (omega arith) (omega arith)), room-kept _ _ _ m (le-refl _), l .inv .1),
+            (subst (λ (t : ℕ). Within t (l .c + 1)) (sym h) (within (omega arith) (omega arith)), room-kept _ _ _ m (le-refl _), l .inv .1, l .inv .2),
           ),
         ),
       ),
@@ -83,7 +86,7 @@ loop-again : tie.Need-loop-again Inv-loop μ-loop
 loop-again c =
     let l = c .before .before .before .before .before .before .before .before .before .before .loop in
     let t = c .before .before .before .before .take-place in
-    (omega (arith, c .before .before .before .before .before .before .before .before .before .loop-test .taken), t .kept .1 .1 .1 .1 .1 .1 .1 .1 .1 .1 .1 .1 .1 .1 .0 ∙ l .inv .1, t .ensures .0, t .ensures .1)
+    (omega (arith, c .before .before .before .before .before .before .before .before .before .loop-test .taken), t .kept .1 .1 .1 .1 .1 .1 .1 .1 .1 .1 .1 .1 .1 .1 .0 ∙ l .inv .1, t .ensures .1 .1, t .ensures .0, t .ensures .1 .0)
 
 same-length : tie.Need-same-length Inv-loop μ-loop
 same-length c = c .before .before .before .before .before .before .list-by-place .kept .1 .0 ∙ c .before .before .before .before .before .before .before .before .before .before .before .before .before .before .before .zero-rest-u32 .kept .0
@@ -95,13 +98,13 @@ same-length-3 : tie.Need-same-length-3 Inv-loop μ-loop
 same-length-3 c = c .before .loop .inv .1 ∙ sym (c .before .before .before .before .before .before .before .before .before .before .before .before .before .before .before .before .before .before .before .before .before .before .before .before .before .before .before .before .before .before .pre .1 .1 .1)
 
 same-length-4 : tie.Need-same-length-4 Inv-loop μ-loop
-same-length-4 c = c .before .loop .inv .2 .size ∙ sym (c .before .before .before .before .before .before .before .before .before .before .before .before .before .before .before .before .before .before .before .before .before .before .before .before .before .before .before .before .before .before .pre .1 .1 .2)
+same-length-4 c = c .before .loop .inv .3 .size ∙ sym (c .before .before .before .before .before .before .before .before .before .before .before .before .before .before .before .before .before .before .before .before .before .before .before .before .before .before .before .before .before .before .pre .1 .1 .2)
 
 returns : tie.Need-returns Inv-loop μ-loop
 returns c =
     let k = c .before .before .before .before .before .before .before .before .before .before .before .before .before .before .before .before .before .before .before .before .before .before .before .before .before .before .before .before .before .before in
     let l = c .before .loop in
-    places-done (l .c) (λ j w. omega (arith, k .pre .1 .0 .places j w .high)) (l .inv .3)
+    places-done (l .c) (λ j w. omega (arith, k .pre .1 .0 .places j w .high)) (l .inv .4)
 
 pub plain-pass-spec : {M : Type 1} → statement M
 plain-pass-spec =

@@ -1,11 +1,12 @@
 use Prim.Native.Nat.{ℕ, _-_}
 use mathlib.Core.List.{List}
 use mathlib.Core.Path.{refl, sym, ap, _∙_, subst}
+use mathlib.Core.Logic.{inr}
 use native.Mathlib.Omega.{arith}
 use lib.ListN.{set}
 use borrow.Author.Needs.{needs}
 use Rattle.steps.specs.Pairs.{bestIn, RowFits}
-use Rattle.plain_engine.specs.Planning.{takenAt}
+use Rattle.plain_engine.specs.Planning.{takes, takenAt}
 use Rattle.steps.specs.Setting.{Setting, anchorOf, settingOf}
 use Rattle.steps.proofs.RowLaws.{tables-prepared, tables-row}
 use Rattle.steps.proofs.SettingLaws.{anchor-fits, ends-fit, row-fits, scores-fit}
@@ -36,10 +37,10 @@ mul-weight c = search needs
 shared-slice-read-weight : tie.Need-shared-slice-read-weight
 shared-slice-read-weight c = search needs
 
-make-row-requires : tie.Need-make-row-requires
-make-row-requires c κs =
+row-for-requires : tie.Need-row-for-requires
+row-for-requires c κs =
     let k = c .before .before .before .before .before .before .before .before .before .before .before .before .before .before in
-    (tables-prepared (k .pre .0), (anchor-fits (k .pre .0 .holds) (k .args .j) (k .pre .1 .1 .0) .vertex, k .pre .1 .1 .1))
+    (tables-prepared (k .pre .0), (anchor-fits (k .pre .0 .holds) (k .args .j) (k .pre .1 .1 .0) .vertex, k .pre .1 .1 .1, k .pre .1 .1 .2))
 
 add-best-of : tie.Need-add-best-of
 add-best-of c = search needs
@@ -67,7 +68,7 @@ best-of-requires c κs =
     let H = k .pre .0 .holds in
     let w = k .pre .1 .1 .0 in
     let f = anchor-fits H (a .j) w in
-    let e = c .before .before .before .before .before .before .make-row .ensures ∙ tables-row s (anchorOf s (a .j) .v) in (
+    let e = c .before .before .before .before .before .before .row-for .ensures ∙ tables-row s (anchorOf s (a .j) .v) in (
       ends-fit H,
       (
         subst (λ (t : List ℕ). RowFits (a .count) (s .ends) t) (sym e) (row-fits H (anchorOf s (a .j) .v) (f .vertex) (a .j) w refl),
@@ -91,15 +92,18 @@ same-length-2 : tie.Need-same-length-2
 same-length-2 c = search needs
 
 returns : tie.Need-returns
-unfolding takenAt
+unfolding takes takenAt
 returns c =
     let k = c .before .before .before .before .before .before .before .before .before .before .before .before .before .before .before .before .before .before .before .before .before .before in
     let a = k .args in
     let s = given k in
-    let e = c .before .before .before .before .before .before .before .make-row .ensures ∙ tables-row s (anchorOf s (a .j) .v) in
-    ap (λ (t : ℕ). set (a .scores .now) (a .j - 1) t)
-    (c .best-of .ensures
-    ∙ ap (λ (t : List ℕ). bestIn (s .ends) (a .scores .now) t (anchorOf s (a .j) .weight) (anchorOf s (a .j) .v) (anchorOf s (a .j) .x) (anchorOf s (a .j) .c) (anchorOf s (a .j) .weight) (a .count)) e)
+    let r = c .before .before .before .before .before .before .before .row-for in
+    let e = r .ensures ∙ tables-row s (anchorOf s (a .j) .v) in (
+      ap (λ (t : ℕ). set (a .scores .now) (a .j - 1) t)
+          (c .best-of .ensures
+          ∙ ap (λ (t : List ℕ). bestIn (s .ends) (a .scores .now) t (anchorOf s (a .j) .weight) (anchorOf s (a .j) .v) (anchorOf s (a .j) .x) (anchorOf s (a .j) .c) (anchorOf s (a .j) .weight) (a .count)) e),
+      inr (r .ensures),
+    )
 
 pub take-anchor-spec : {M : Type 1} → statement M
 take-anchor-spec =
@@ -112,7 +116,7 @@ take-anchor-spec =
     add-weight
     mul-weight
     shared-slice-read-weight
-    make-row-requires
+    row-for-requires
     add-best-of
     mul-best-of
     shared-slice-read-best-of

@@ -1,6 +1,7 @@
 use Prim.Native.Nat.{ℕ, _≤_, _<_, _-_, _*_}
 use mathlib.Core.Path.{_≡_, refl, _∙_, subst}
 use mathlib.Core.Logic.{inl, inr, ⊎-elim}
+use mathlib.Core.Bool.{true}
 use native.Mathlib.Omega.{arith}
 use lib.ListN.{length}
 use Rattle.rounds.proofs.Turns.{swept-start, swept-round}
@@ -117,7 +118,7 @@ loop-again c =
       omega (arith, h),
       f .kept .0 ∙ l .inv .1,
       inr (f .ensures),
-      ⊎-elim (λ w. rw (w .1, w .2) (turn-set (b .pre .0 .holds) (b .pre .1 .0) (l .j) (h .3) (f .ensures) (l .inv .3) (r .result) (r .ensures) (w .0 .taken)))
+      ⊎-elim (λ w. let e : c .if1 .changed ≡ true = w .2 in rw (w .1, e) (turn-set (b .pre .0 .holds) (b .pre .1 .0) (l .j) (h .3) (f .ensures) (l .inv .3) (r .result) (r .ensures) (w .0 .taken)))
           (λ w. rw (w .1, w .2) (turn-same (b .pre .0 .holds) (b .pre .1 .0) (l .j) (h .3) (f .ensures) (l .inv .3) (r .result) (r .ensures) (w .0 .left)))
           (c .if1 .came),
     )

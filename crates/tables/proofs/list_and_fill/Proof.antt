@@ -14,20 +14,20 @@ use Rattle.table_rows.proofs.targets.list_by_target.Reads as list-by-target-rea
 
 list-by-target-requires : tie.Need-list-by-target-requires
 list-by-target-requires c κs =
-    let s = c .before .before .before .before .before .before .before .before .before .before .before .before .before in
-    (holds-held (s .pre .0 .holds), s .pre .1 .1 .1 .0)
+    let s = c .before .before .before .before .before .before .before .before .before .before .before .before in
+    (holds-held (s .pre .0 .holds), s .pre .1 .1 .1)
 
 fill-tables-requires : tie.Need-fill-tables-requires
 fill-tables-requires c κs =
     let l = c .before .before .before .before .before .before .before .before .before .before in
-    let s = l .before .before .before .before .before .before .before .before .before .before .before .before .before .before in
+    let s = l .before .before .before .before .before .before .before .before .before .before .before .before .before in
     let p = l .list-by-target .kept .1 .0 in
     let q = l .list-by-target .kept .1 .1 .0 in
     let r = s .pre .1 .1 .0 in (
       record { graph = s .pre .0 .graph; holds = holds-on _ _ p q (s .pre .0 .holds) },
       (
         linked-on _ _ p q (holds-held (s .pre .0 .holds)) (l .list-by-target .ensures),
-        ((rw p (s .pre .1 .0 .0), rw p (s .pre .1 .0 .1)), ((rw p (r .0), rw p (r .1), r .2 ∙ sym p), s .pre .1 .1 .1 .1)),
+        (rw p (s .pre .1 .0), (rw p (r .0), rw p (r .1), r .2 ∙ sym p)),
       ),
     )
 

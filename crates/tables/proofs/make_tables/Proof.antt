@@ -29,53 +29,40 @@ edge-zeros-requires c κs = search needs
 cell-zeros-requires : tie.Need-cell-zeros-requires
 cell-zeros-requires c κs = search needs
 
-cell-zeros-requires-2 : tie.Need-cell-zeros-requires-2
-cell-zeros-requires-2 c κs = search needs
-
 array-borrow-prefix-heads : tie.Need-array-borrow-prefix-heads
-array-borrow-prefix-heads c = omega (arith, room-long 1024 (c .before .before .before .vertex-zeros .ensures), few (c .before .before .before .before .before .before .before .before .before .before .before) .fewVertices)
+array-borrow-prefix-heads c = omega (arith, room-long 1024 (c .before .before .vertex-zeros .ensures), few (c .before .before .before .before .before .before .before .before .before .before) .fewVertices)
 
 slice-aggregate-list-and-fill : tie.Need-slice-aggregate-list-and-fill
-slice-aggregate-list-and-fill c = sym (front-long 1024 (c .before .before .before .before .vertex-zeros .ensures) (c .before .before .before .before .before .before .before .before .before .before .before .before .args .n) (few (c .before .before .before .before .before .before .before .before .before .before .before .before) .fewVertices))
+slice-aggregate-list-and-fill c = sym (front-long 1024 (c .before .before .before .vertex-zeros .ensures) (c .before .before .before .before .before .before .before .before .before .before .before .args .n) (few (c .before .before .before .before .before .before .before .before .before .before .before) .fewVertices))
 
 array-borrow-prefix-nexts : tie.Need-array-borrow-prefix-nexts
-array-borrow-prefix-nexts c = omega (arith, room-long 4096 (c .before .before .before .edge-zeros .ensures), few (c .before .before .before .before .before .before .before .before .before .before .before .before) .fewEdges)
+array-borrow-prefix-nexts c = omega (arith, room-long 4096 (c .before .before .edge-zeros .ensures), few (c .before .before .before .before .before .before .before .before .before .before .before) .fewEdges)
 
 slice-aggregate-list-and-fill-2 : tie.Need-slice-aggregate-list-and-fill-2
-slice-aggregate-list-and-fill-2 c = sym (front-long 4096 (c .before .before .before .before .edge-zeros .ensures) (c .before .before .before .before .before .before .before .before .before .before .before .before .before .args .m) (few (c .before .before .before .before .before .before .before .before .before .before .before .before .before) .fewEdges))
+slice-aggregate-list-and-fill-2 c = sym (front-long 4096 (c .before .before .before .edge-zeros .ensures) (c .before .before .before .before .before .before .before .before .before .before .before .before .args .m) (few (c .before .before .before .before .before .before .before .before .before .before .before .before) .fewEdges))
 
 mul-scratch : tie.Need-mul-scratch
-mul-scratch c = omega (arith, few (c .before .before .before .before .before .before .before .before .before .before .before .before .before) .fewVertices)
+mul-scratch c = omega (arith, few (c .before .before .before .before .before .before .before .before .before .before .before .before) .fewVertices)
 
 array-borrow-prefix-scratch : tie.Need-array-borrow-prefix-scratch
-array-borrow-prefix-scratch c = omega (arith, room-long 16384 (c .before .before .before .cell-zeros .ensures), few (c .before .before .before .before .before .before .before .before .before .before .before .before .before) .fewVertices)
+array-borrow-prefix-scratch c = omega (arith, room-long 16384 (c .before .before .cell-zeros .ensures), few (c .before .before .before .before .before .before .before .before .before .before .before .before) .fewVertices)
 
 slice-aggregate-list-and-fill-3 : tie.Need-slice-aggregate-list-and-fill-3
-slice-aggregate-list-and-fill-3 c = sym (front-long 16384 (c .before .before .before .before .cell-zeros .ensures) (16 * c .before .before .before .before .before .before .before .before .before .before .before .before .before .before .args .n) (omega (arith, few (c .before .before .before .before .before .before .before .before .before .before .before .before .before .before) .fewVertices)))
-
-mul-level : tie.Need-mul-level
-mul-level c = omega (arith, few (c .before .before .before .before .before .before .before .before .before .before .before .before .before .before) .fewVertices)
-
-array-share-prefix-level : tie.Need-array-share-prefix-level
-array-share-prefix-level c = omega (arith, room-long 16384 (c .before .before .before .cell-zeros2 .ensures), few (c .before .before .before .before .before .before .before .before .before .before .before .before .before .before) .fewVertices)
-
-slice-aggregate-list-and-fill-4 : tie.Need-slice-aggregate-list-and-fill-4
-slice-aggregate-list-and-fill-4 c = sym (front-long 16384 (c .before .before .before .before .cell-zeros2 .ensures) (16 * c .before .before .before .before .before .before .before .before .before .before .before .before .before .before .before .args .n) (omega (arith, few (c .before .before .before .before .before .before .before .before .before .before .before .before .before .before .before) .fewVertices)))
+slice-aggregate-list-and-fill-3 c = sym (front-long 16384 (c .before .before .before .cell-zeros .ensures) (16 * c .before .before .before .before .before .before .before .before .before .before .before .before .before .args .n) (omega (arith, few (c .before .before .before .before .before .before .before .before .before .before .before .before .before) .fewVertices)))
 
 list-and-fill-requires : tie.Need-list-and-fill-requires
 list-and-fill-requires c κs =
-    let s = c .before .before .before .before .before .before .before .before .before .before .before .before .before .before .before .before .before .before in
+    let s = c .before .before .before .before .before .before .before .before .before .before .before .before .before .before .before .before in
     let a = s .args in
     let f = few s in
-    let h = c .before .before .before .before .before .before .before .before .before .before .vertex-zeros .ensures in
-    let x = c .before .before .before .before .before .before .before .before .before .edge-zeros .ensures in
-    let z = c .before .before .before .before .before .before .before .before .cell-zeros .ensures in
-    let l = c .before .before .before .before .before .before .before .cell-zeros2 .ensures in
+    let h = c .before .before .before .before .before .before .before .before .vertex-zeros .ensures in
+    let x = c .before .before .before .before .before .before .before .edge-zeros .ensures in
+    let z = c .before .before .before .before .before .before .cell-zeros .ensures in
     let p = front-long 1024 h (a .n) (f .fewVertices) in
     let r = s .pre .1 in
     let w : 16 * a .n ≤ 16384 = omega (arith, f .fewVertices) in (
       record { graph = s .pre .0 .graph; holds = holds-on _ _ p (front-long 4096 x (a .m) (f .fewEdges)) (s .pre .0 .holds) },
-      ((rw p (front-long 16384 z (16 * a .n) w), rw p (front-long 16384 l (16 * a .n) w)), ((rw p (r .0), rw p (r .1), r .2 ∙ sym p), (front-flat 1024 h (a .n), front-flat 16384 l (16 * a .n)))),
+      (rw p (front-long 16384 z (16 * a .n) w), ((rw p (r .0), rw p (r .1), r .2 ∙ sym p), front-flat 1024 h (a .n))),
     )
 
 same-length : tie.Need-same-length
@@ -91,9 +78,9 @@ returns : tie.Need-returns
 returns c =
     λ g H.
     let k = c .before .before .before .before .before .before .before .before .before in
-    let s = k .before .before .before .before .before .before .before .before .before .before .before .before .before .before .before .before .before .before .before in
+    let s = k .before .before .before .before .before .before .before .before .before .before .before .before .before .before .before .before .before in
     let f = few s in
-    k .list-and-fill .ensures g (holds-on _ _ (front-long 1024 (k .before .before .before .before .before .before .before .before .before .before .before .vertex-zeros .ensures) (s .args .n) (f .fewVertices)) (front-long 4096 (k .before .before .before .before .before .before .before .before .before .before .edge-zeros .ensures) (s .args .m) (f .fewEdges)) H)
+    k .list-and-fill .ensures g (holds-on _ _ (front-long 1024 (k .before .before .before .before .before .before .before .before .before .vertex-zeros .ensures) (s .args .n) (f .fewVertices)) (front-long 4096 (k .before .before .before .before .before .before .before .before .edge-zeros .ensures) (s .args .m) (f .fewEdges)) H)
 
 pub make-tables-spec : {M : Type 1} → statement M
 make-tables-spec =
@@ -102,7 +89,6 @@ make-tables-spec =
     vertex-zeros-requires
     edge-zeros-requires
     cell-zeros-requires
-    cell-zeros-requires-2
     array-borrow-prefix-heads
     slice-aggregate-list-and-fill
     array-borrow-prefix-nexts
@@ -110,9 +96,6 @@ make-tables-spec =
     mul-scratch
     array-borrow-prefix-scratch
     slice-aggregate-list-and-fill-3
-    mul-level
-    array-share-prefix-level
-    slice-aggregate-list-and-fill-4
     list-and-fill-requires
     same-length
     same-length-2

@@ -6,15 +6,15 @@ use lib.Seq.{length-take-le}
 use Rattle.wire.proofs.Encoding.{encode-most}
 use Rattle.wire.specs.Sizes.{anchorKind}
 use Rattle.graph.specs.Encode.{encodeNumbers}
-use Rattle.graph_write.proofs.Encoded.{numbers-most}
+use Rattle.graph_content.proofs.Encoded.{numbers-most}
 use Rattle.anchors.specs.Anchors.{perAnchor}
 use borrow.Author.Needs.{needs}
 use Rattle.anchors_write.proofs.bytes.anchors_size.Statement.{statement}
 use Rattle.anchors_write.proofs.bytes.anchors_size.Tie as tie
 use Rattle.anchors_write.proofs.bytes.anchors_size.Reads as reads
 use Rattle.anchors_write.proofs.bytes.anchors_size.Lts as lts
-use Rattle.graph_write.proofs.room.numbers_size.Reads as numbers-size-reads
-use Rattle.graph_write.proofs.room.wide.Reads as wide-reads
+use Rattle.graph_bytes.proofs.room.numbers_size.Reads as numbers-size-reads
+use Rattle.graph_content.proofs.wide.Reads as wide-reads
 use Rattle.wire.proofs.numbers.group_count.Reads as group-count-reads
 
 wide-requires : tie.Need-wide-requires

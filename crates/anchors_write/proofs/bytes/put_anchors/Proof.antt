@@ -9,7 +9,7 @@ use Rattle.wire.specs.Numbers.{encode}
 use Rattle.wire.specs.Sizes.{anchorKind}
 use Rattle.wire.proofs.Rest.{rest-part}
 use Rattle.graph.specs.Encode.{encodeNumbers}
-use Rattle.graph_write.proofs.Along.{Along, along-as, along-fits, along-room, along-long, along-more, along-done}
+use Rattle.graph_bytes.proofs.Along.{Along, along-as, along-fits, along-room, along-long, along-more, along-done}
 use Rattle.anchors.specs.Anchors.{perAnchor}
 use Rattle.anchors.specs.AnchorBytes.{encodeAnchors}
 use Rattle.anchors.specs.AnchorEntries.{AnchorsGiven}
@@ -20,8 +20,8 @@ use Rattle.anchors_write.proofs.bytes.put_anchors.Statement.{statement}
 use Rattle.anchors_write.proofs.bytes.put_anchors.Tie as tie
 use Rattle.anchors_write.proofs.bytes.put_anchors.Reads as reads
 use Rattle.anchors_write.proofs.bytes.put_anchors.Lts as lts
-use Rattle.graph_write.proofs.puts.put_numbers.Reads as put-numbers-reads
-use Rattle.graph_write.proofs.room.wide.Reads as wide-reads
+use Rattle.graph_bytes.proofs.puts.put_numbers.Reads as put-numbers-reads
+use Rattle.graph_content.proofs.wide.Reads as wide-reads
 use Rattle.wire.proofs.letters.put_letters.Reads as put-letters-reads
 use Rattle.wire.proofs.numbers.put_number.Reads as put-number-reads
 

@@ -4,12 +4,12 @@ use native.Mathlib.Omega.{arith}
 use lib.ListN.{length, take}
 use Rattle.wire.specs.Sizes.{mostRead, mostAnchors, fullLengths}
 use Rattle.graph.proofs.Kept.{range-kept}
-use Rattle.graph_write.specs.Faults.{lettersFault}
-use Rattle.graph_write.proofs.Encoded.{left-all}
+use Rattle.graph_content.specs.Faults.{lettersFault}
+use Rattle.graph_content.proofs.Encoded.{left-all}
 use Rattle.anchors.specs.AnchorRules.{noAnchor}
 use Rattle.anchors.specs.AnchorEntries.{AnchorsGiven}
-use Rattle.anchors.specs.LabelTables.{contentOf}
-use Rattle.anchors.proofs.LabelLaws.{few-vertices, length-zeros, tables-made}
+use Rattle.anchors_check.specs.LabelTables.{contentOf}
+use Rattle.anchors_check.proofs.LabelLaws.{few-vertices, length-zeros, tables-made}
 use Rattle.anchors_write.specs.FirstFaults.{eachFault}
 use Rattle.anchors_write.proofs.ContentSteps.{content-read, content-letters, content-count, content-each}
 use borrow.Author.Needs.{needs}
@@ -17,12 +17,12 @@ use Rattle.anchors_write.proofs.content.content_fault.Statement.{statem
 use Rattle.anchors_write.proofs.content.content_fault.Tie as tie
 use Rattle.anchors_write.proofs.content.content_fault.Reads as reads
 use Rattle.anchors_write.proofs.content.content_fault.Lts as lts
-use Rattle.anchors.proofs.labels.label_places.Reads as label-places-reads
-use Rattle.anchors.proofs.labels.label_table.Reads as label-table-reads
+use Rattle.anchors_check.proofs.labels.label_places.Reads as label-places-reads
+use Rattle.anchors_check.proofs.labels.label_table.Reads as label-table-reads
 use Rattle.anchors_write.proofs.content.each_fault.Reads as each-fault-reads
-use Rattle.graph.proofs.rules.range_fault.Reads as range-fault-reads
-use Rattle.graph_write.proofs.content.letters_fault.Reads as letters-fault-reads
-use Rattle.graph_write.proofs.room.wide.Reads as wide-reads
+use Rattle.graph_parts.proofs.rules.range_fault.Reads as range-fault-reads
+use Rattle.graph_content.proofs.content.letters_fault.Reads as letters-fault-reads
+use Rattle.graph_content.proofs.wide.Reads as wide-reads
 
 -- the content that is given
 abbrev given : tie.Start → AnchorsGiven

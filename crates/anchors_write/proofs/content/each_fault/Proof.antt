@@ -4,18 +4,18 @@ use native.Mathlib.Omega.{arith}
 use lib.ListN.{take}
 use borrow.Author.Needs.{needs}
 use borrow.Author.Tests.{not-true, not-false}
-use Rattle.graph_write.proofs.Encoded.{left-all}
+use Rattle.graph_content.proofs.Encoded.{left-all}
 use Rattle.anchors.specs.AnchorRules.{noAnchor}
-use Rattle.anchors.specs.LabelTables.{contentOf}
-use Rattle.anchors.specs.OneAnchor.{anchorOf}
+use Rattle.anchors_check.specs.LabelTables.{contentOf}
+use Rattle.anchors_check.specs.OneAnchor.{anchorOf}
 use Rattle.anchors_write.specs.FirstFaults.{eachFault}
 use Rattle.anchors_write.proofs.EachSteps.{each-over, each-own, each-order, each-more}
 use Rattle.anchors_write.proofs.content.each_fault.Statement.{statement}
 use Rattle.anchors_write.proofs.content.each_fault.Tie as tie
 use Rattle.anchors_write.proofs.content.each_fault.Reads as reads
 use Rattle.anchors_write.proofs.content.each_fault.Lts as lts
-use Rattle.anchors.proofs.one.key_below.Reads as key-below-reads
-use Rattle.anchors.proofs.one.own_fault.Reads as own-fault-reads
+use Rattle.anchors_check.proofs.one.key_below.Reads as key-below-reads
+use Rattle.anchors_check.proofs.one.own_fault.Reads as own-fault-reads
 use Rattle.anchors_write.proofs.content.anchor_in.Reads as anchor-in-reads
 
 abbrev Inv-loop : tie.InvT-loop

@@ -16,10 +16,10 @@ use Rattle.table_rounds.proofs.closed.closed_walks.Lts as lts
 use Rattle.table_rounds.proofs.closed.close_sixteen.Reads as close-sixteen-reads
 
 abbrev Inv-loop : tie.InvT-loop
-Inv-loop closed₀ table₀ level lengths edges heads nexts base₀ closed table base = (length closed ≡ length closed₀) × (length table ≡ length table₀) × ((v : ℕ) → Within base v → v ≤ length heads → ClosedBy (length heads) (length nexts) lengths edges level v (entry v closed))
+Inv-loop closed₀ table₀ lengths edges heads nexts base₀ closed table base = (length closed ≡ length closed₀) × (length table ≡ length table₀) × ((v : ℕ) → Within base v → v ≤ length heads → ClosedBy (length heads) (length nexts) lengths edges v (entry v closed))
 
 abbrev μ-loop : tie.MeasureT-loop
-μ-loop closed₀ table₀ level lengths edges heads nexts base₀ closed table base = length heads - base
+μ-loop closed₀ table₀ lengths edges heads nexts base₀ closed table base = length heads - base
 
 loop-holds : tie.Need-loop-holds Inv-loop μ-loop
 loop-holds c = (refl, refl, λ v w. absurd (omega arith))
@@ -27,11 +27,11 @@ loop-holds c = (refl, refl, λ v w. absurd (omega arith))
 close-sixteen-requires : tie.Need-close-sixteen-requires Inv-loop μ-loop
 close-sixteen-requires c κs =
     let k = c .before .before .before in
-    let s = k .before .before .before .before .before .before .before .before in
-    (s .pre .0, ((s .pre .1 .0 .0, k .loop .inv .0 ∙ s .pre .1 .0 .1), ((k .loop .inv .1 ∙ s .pre .1 .1 .0 .0, s .pre .1 .1 .0 .1), (s .pre .1 .1 .1, omega arith))))
+    let s = k .before .before .before .before .before .before .before in
+    (s .pre .0, ((s .pre .1 .0 .0, k .loop .inv .0 ∙ s .pre .1 .0 .1), (k .loop .inv .1 ∙ s .pre .1 .1 .0, (s .pre .1 .1 .1, omega arith))))
 
 add-base : tie.Need-add-base Inv-loop μ-loop
-add-base c = omega (arith, c .before .before .before .before .before .before .before .before .before .before .before .before .before .before .before .before .pre .0 .held)
+add-base c = omega (arith, c .before .before .before .before .before .before .before .before .before .before .before .before .before .before .before .pre .0 .held)
 
 loop-less : tie.Need-loop-less Inv-loop μ-loop
 loop-less c = omega arith

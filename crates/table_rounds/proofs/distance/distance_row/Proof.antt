@@ -4,9 +4,9 @@ use Rattle.rounds.proofs.Upto.{within}
 use Rattle.table_rows.specs.Lists.{IsNext}
 use Rattle.table_rows.specs.Lanes.{Lanes}
 use Rattle.table_rows.specs.HeldEdges.{source, target}
-use Rattle.table_rounds.specs.Held.{labelLength}
+use Rattle.table_rounds.specs.Held.{near}
 use Rattle.table_rows.proofs.Linking.{Walking, walk-start, walk-on, ahead, ahead-less}
-use Rattle.table_rounds.proofs.Relaxing.{nearedBy, neared-none, neared-turn, neared-end}
+use Rattle.table_rounds.proofs.Relaxing.{takenBy, taken-none, neared-turn, taken-end}
 use denote.Ref.{now}
 use lib.ListN.{length, getD, set, take, drop}
 use Prim.Native.Nat.{ℕ, zero, suc, _+_, _-_, _*_, _≤_, _<_, max}
@@ -22,7 +22,7 @@ use Rattle.table_rows.proofs.rows.row_at.Reads as row-at-reads
 use Rattle.table_rows.proofs.rows.wide.Reads as wide-reads
 
 abbrev Inv-loop : tie.InvT-loop
-Inv-loop table reach lengths edges heads nexts v own row₀ e₀ row e = (own ≡ 16 * (v - 1)) × Walking (target edges) v (length nexts) e (λ k. Lanes row (nearedBy lengths edges reach table v k))
+Inv-loop table reach lengths edges heads nexts v own row₀ e₀ row e = (own ≡ 16 * (v - 1)) × Walking (target edges) v (length nexts) e (λ k. Lanes row (takenBy table (near (length nexts) lengths edges reach) v k))
 
 abbrev μ-loop : tie.MeasureT-loop
 μ-loop table reach lengths edges heads nexts v own row₀ e₀ row e = ahead (length nexts) e
@@ -52,7 +52,7 @@ loop-holds : tie.Need-loop-holds Inv-loop μ-loop
 loop-holds c =
     let s = c .before .before .before .before .before .before .before .before .before in
     let h = subst (IsNext (target (s .args .edges .now)) (s .args .v) 0 (length (s .args .nexts .now))) (sym (c .wide .ensures)) (s .pre .0 .listed .head (s .args .v) (s .pre .1 .1 .1 .1)) in
-    (refl, walk-start h (neared-none _ _ _ _ _ _ (omega arith) (c .before .before .row-at .ensures)))
+    (refl, walk-start h (taken-none _ _ _ _ (omega arith) (c .before .before .row-at .ensures)))
 
 -- in a turn e is an edge into v
 on : (c : tie.In-loop Inv-loop μ-loop) → let a = c .before .before .before .before .before .before .before .before .before .before .before .args in Within (length (a .nexts .now)) (c .before .loop .e) × (target (a .edges .now) (c .before .loop .e) ≡ a .v)
@@ -130,10 +130,10 @@ loop-again c =
     let t = c .before .before in
     let k = t .before .before .before .before in
     let s = k .before .before .before .before .before .before .before .before .before .before .before in
-    (k .before .loop .inv .0, neared-turn _ _ _ _ _ (t .before .before .wide2 .result) _ (t .neared-row .result) (k .before .loop .inv .1) (k .loop-test .taken) (t .before .before .wide2 .ensures) (from (t .before .before) .low) (omega arith) (t .neared-row .ensures) (next c))
+    (k .before .loop .inv .0, neared-turn (s .args .lengths .now) (s .args .edges .now) (s .args .reach .now) _ _ (t .before .before .wide2 .result) _ (t .neared-row .result) (k .before .loop .inv .1) (k .loop-test .taken) (t .before .before .wide2 .ensures) (from (t .before .before) .low) (omega arith) (t .neared-row .ensures) (next c))
 
 returns : tie.Need-returns Inv-loop μ-loop
-returns c = neared-end _ _ _ _ _ _ (c .before .loop .inv .1) (omega arith)
+returns c = let s = c .before .before .before .before .before .before .before .before .before .before .before in taken-end _ _ _ (s .args .edges .now) _ (λ _ _ y. y .0) _ (λ _. refl) (c .before .loop .inv .1) (omega arith)
 
 pub distance-row-spec : {M : Type 1} → statement M
 distance-row-spec =

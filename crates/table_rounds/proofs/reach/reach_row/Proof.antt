@@ -1,11 +1,11 @@
 use Rattle.table_rows.proofs.Linking.{Walking, walk-start, walk-on, ahead, ahead-less}
-use Rattle.table_rounds.proofs.Relaxing.{raisedBy, raised-none, raised-turn, raised-end}
+use Rattle.table_rounds.proofs.Relaxing.{takenBy, taken-none, raised-turn, taken-end}
 use Rattle.rounds.specs.Rounds.{Within}
 use Rattle.rounds.proofs.Upto.{within}
 use Rattle.table_rows.specs.Lists.{IsNext}
 use Rattle.table_rows.specs.Lanes.{Lanes}
 use Rattle.table_rows.specs.HeldEdges.{source, target}
-use Rattle.table_rounds.specs.Held.{labelLength}
+use Rattle.table_rounds.specs.Held.{raise}
 use denote.Ref.{now}
 use lib.ListN.{length, getD, set, take, drop}
 use Prim.Native.Nat.{ℕ, zero, suc, _+_, _-_, _*_, _≤_, _<_, max}
@@ -21,7 +21,7 @@ use Rattle.table_rows.proofs.rows.row_at.Reads as row-at-reads
 use Rattle.table_rows.proofs.rows.wide.Reads as wide-reads
 
 abbrev Inv-loop : tie.InvT-loop
-Inv-loop table edges heads nexts v row₀ e₀ row e = Walking (target edges) v (length nexts) e (λ k. Lanes row (raisedBy edges table v k))
+Inv-loop table edges heads nexts v row₀ e₀ row e = Walking (target edges) v (length nexts) e (λ k. Lanes row (takenBy table (λ _. raise (length nexts) edges) v k))
 
 abbrev μ-loop : tie.MeasureT-loop
 μ-loop table edges heads nexts v row₀ e₀ row e = ahead (length nexts) e
@@ -51,7 +51,7 @@ loop-holds : tie.Need-loop-holds Inv-loop μ-loop
 loop-holds c =
     let s = c .before .before .before .before .before .before .before in
     let h = subst (IsNext (target (s .args .edges .now)) (s .args .v) 0 (length (s .args .nexts .now))) (sym (c .wide .ensures)) (s .pre .0 .listed .head (s .args .v) (s .pre .1 .1)) in
-    walk-start h (raised-none _ _ _ _ (omega arith) (c .before .before .row-at .ensures))
+    walk-start h (taken-none _ _ _ _ (omega arith) (c .before .before .row-at .ensures))
 
 -- in a turn e is an edge into v
 on : (c : tie.In-loop Inv-loop μ-loop) → let a = c .before .before .before .before .before .before .before .before .before .args in Within (length (a .nexts .now)) (c .before .loop .e) × (target (a .edges .now) (c .before .loop .e) ≡ a .v)
@@ -115,10 +115,11 @@ loop-again : tie.Need-loop-again Inv-loop μ-loop
 loop-again c =
     let t = c .before .before in
     let k = t .before .before .before in
-    raised-turn _ _ _ (t .before .wide2 .result) _ (t .raised-row .result) (k .before .loop .inv) (k .loop-test .taken) (t .before .wide2 .ensures) (from (t .before) .low) (t .raised-row .ensures) (next c)
+    let s = k .before .before .before .before .before .before .before .before .before in
+    raised-turn (s .args .edges .now) _ _ (t .before .wide2 .result) _ (t .raised-row .result) (k .before .loop .inv) (k .loop-test .taken) (t .before .wide2 .ensures) (from (t .before) .low) (t .raised-row .ensures) (next c)
 
 returns : tie.Need-returns Inv-loop μ-loop
-returns c = raised-end _ _ _ _ (c .before .loop .inv) (omega arith)
+returns c = let s = c .before .before .before .before .before .before .before .before .before in taken-end _ _ _ (s .args .edges .now) _ (λ _ _ y. y) _ (λ _. refl) (c .before .loop .inv) (omega arith)
 
 pub reach-row-spec : {M : Type 1} → statement M
 reach-row-spec =

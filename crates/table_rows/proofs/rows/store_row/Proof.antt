@@ -8,10 +8,10 @@ use Rattle.rounds.proofs.Upto.{within}
 use Rattle.table_rows.specs.Lanes.{putCell}
 use Rattle.table_rows.proofs.Laning.{put-local, put-cell}
 use denote.Ref.{now}
+use lib.Seq.{set-getD}
 use lib.ListN.{length, getD, set, take, drop}
 use Prim.Native.Nat.{ℕ, zero, suc, _+_, _-_, _*_, _≤_, _<_, max}
 use mathlib.Core.Path.{_≡_, refl, sym, ap, _∙_, subst}
-use borrow.Author.Needs.{needs}
 use native.Mathlib.Omega.{arith}
 use Rattle.table_rows.proofs.rows.store_row.Statement.{statement}
 use Rattle.table_rows.proofs.rows.store_row.Tie as tie
@@ -36,17 +36,11 @@ mul-at c = omega arith
 add-at : tie.Need-add-at Inv-loop μ-loop
 add-at c = omega arith
 
-mul-if1 : tie.Need-mul-if1 Inv-loop μ-loop
-mul-if1 c = omega arith
+mul-old : tie.Need-mul-old Inv-loop μ-loop
+mul-old c = omega arith
 
-slice-read-if1 : tie.Need-slice-read-if1 Inv-loop μ-loop
-slice-read-if1 c = omega arith
-
-mul-if1-2 : tie.Need-mul-if1-2 Inv-loop μ-loop
-mul-if1-2 c = omega arith
-
-array-read-if1 : tie.Need-array-read-if1 Inv-loop μ-loop
-array-read-if1 c = omega arith
+slice-read-old : tie.Need-slice-read-old Inv-loop μ-loop
+slice-read-old c = omega arith
 
 mul-table : tie.Need-mul-table Inv-loop μ-loop
 mul-table c = omega arith
@@ -60,6 +54,12 @@ mul-table-2 c = omega arith
 slice-write-table : tie.Need-slice-write-table Inv-loop μ-loop
 slice-write-table c = omega arith
 
+mul-if1 : tie.Need-mul-if1 Inv-loop μ-loop
+mul-if1 c = omega arith
+
+array-read-if1 : tie.Need-array-read-if1 Inv-loop μ-loop
+array-read-if1 c = omega arith
+
 add-i : tie.Need-add-i Inv-loop μ-loop
 add-i c = omega arith
 
@@ -71,11 +71,12 @@ loop-again c =
     let k = c .before .before .before in
     let a = k .before .args in
     let i = k .loop .i in
-    let x = getD (a .t3) i 0 in (
+    let x = getD (a .t3) i 0 in
+    let at = 16 * (a .v - 1) + i in (
       omega arith,
       k .loop .inv .1,
-      ⊎-elim (λ w. rw (w .1, w .2) (swept-set tableRow (put-local (a .v) (a .t3) (omega arith)) (16 * (a .v - 1) + i) x 1 (omega arith) (k .loop .inv .2) (put-cell (a .v) (a .t3) i _ (omega arith)) (omega arith) (λ e. w .0 .taken (sym e)) (within (omega arith) (omega arith)) (λ r. ap (λ (q : ℕ). getD r q 0) (omega arith))))
-          (λ w. rw (w .1, w .2) (swept-kept tableRow (put-local (a .v) (a .t3) (omega arith)) (16 * (a .v - 1) + i) x (omega arith) (k .loop .inv .2) (put-cell (a .v) (a .t3) i _ (omega arith)) (sym (w .0 .left))))
+      ⊎-elim (λ w. rw (w .1) (swept-set tableRow (put-local (a .v) (a .t3) (omega arith)) at x 1 (omega arith) (k .loop .inv .2) (put-cell (a .v) (a .t3) i _ (omega arith)) (omega arith) (λ e. w .0 .taken (sym e)) (within (omega arith) (omega arith)) (λ r. ap (λ (q : ℕ). getD r q 0) (omega arith))))
+          (λ w. rw (w .1, ap (set (k .loop .table) at) (sym (w .0 .left)) ∙ set-getD (k .loop .table) at 0) (swept-kept tableRow (put-local (a .v) (a .t3) (omega arith)) at x (omega arith) (k .loop .inv .2) (put-cell (a .v) (a .t3) i _ (omega arith)) (sym (w .0 .left))))
           (c .if1 .came),
     )
 
@@ -98,14 +99,14 @@ store-row-spec =
     sub-at
     mul-at
     add-at
-    mul-if1
-    slice-read-if1
-    mul-if1-2
-    array-read-if1
+    mul-old
+    slice-read-old
     mul-table
     array-read-table
     mul-table-2
     slice-write-table
+    mul-if1
+    array-read-if1
     add-i
     loop-less
     loop-again

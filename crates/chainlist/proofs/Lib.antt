@@ -1,0 +1,2 @@
+-- The laws of the listing program.
+pub mod Listing

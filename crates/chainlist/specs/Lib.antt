@@ -1,0 +1,3 @@
+-- The definitions of the listing program.
+pub mod Files
+pub mod Numbers

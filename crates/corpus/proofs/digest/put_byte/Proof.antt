@@ -1,0 +1,15 @@
+-- `corpus::digest::put_byte` meets its contract. Assumes nothing.
+use borrow.Author.Needs.{needs}
+use Rattle.corpus.specs.Digest.{digestByte}
+use Rattle.corpus.proofs.digest.put_byte.Statement.{statement}
+use Rattle.corpus.proofs.digest.put_byte.Tie as tie
+
+times-prime-requires : tie.Need-times-prime-requires
+times-prime-requires c κs = search needs
+
+returns : tie.Need-returns
+unfolding digestByte
+returns c = c .times-prime .ensures
+
+pub put-byte-spec : {M : Type 1} → statement M
+put-byte-spec = tie.close (tie.spec times-prime-requires returns)

@@ -1,0 +1,2 @@
+-- The definitions of what the check answers, beside those of the graph file.
+pub mod Checked

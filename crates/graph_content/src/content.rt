@@ -1,0 +1,157 @@
+// The first fault of the labels, the edges and the paths, in the reader's order, 0 for none.
+use crate::wide;
+use graph_parts::rules::edge_below;
+use graph_parts::rules::edge_fault;
+use graph_parts::rules::length_fault;
+use graph_parts::rules::letter_fault;
+use graph_parts::rules::range_fault;
+use graph_parts::rules::rise_fault;
+use wire::refusals::NOT_EDGE;
+use wire::sizes::PATH_ROOM;
+ghost use mathlib.Core.Path.{_≡_};
+ghost use mathlib.Core.Bool.{false};
+ghost use Prim.Native.Nat.{_+_, _-_, _*_, _≤_, _<_};
+ghost use lib.ListN.{length};
+ghost use Rattle.wire.specs.Sizes.{mostVertices, mostEdges, mostPaths, fullLetters, fullLengths, fullEdges, fullPaths, fullCounts};
+ghost use Rattle.graph.specs.Rules.{noEdge, edgeBelow};
+ghost use Rattle.graph.specs.Entries.{edgeIn};
+ghost use Rattle.graph_content.specs.Used.{edgesIn};
+ghost use Rattle.graph_content.specs.Faults.{lettersFault, labelsFault, edgesFault, verticesFault, pathsFault, Rising};
+ghost use Rattle.graph_content.specs.Search.{Passed, edgeIs};
+
+// A label's letters, from a place up to another.
+pub fn letters_fault(letters: &[u8], start: usize, end: usize) -> u32
+    requires { ⌜ end ≤ length (now letters) ⌝ }
+    ensures { λ r. ⌜ r ≡ lettersFault (end - start) (now (letters .entry)) start ⌝ }
+{
+    let mut at = start;
+    while at < end {
+        let fault = letter_fault(letters[at]);
+        if fault != 0 {
+            return fault;
+        }
+        at += 1;
+    }
+    0
+}
+
+// The labels: each length, and then its letters.
+pub fn labels_fault(n: usize, letters: &[u8], lengths: &[u32]) -> u32
+    requires { ⌜ (n ≤ mostVertices) × (fullLetters ≤ length (now letters)) × (fullLengths ≤ length (now lengths)) ⌝ }
+    ensures { λ r. ⌜ r ≡ labelsFault n 0 0 (now (letters .entry)) (now (lengths .entry)) ⌝ }
+{
+    let mut sum: u32 = 0;
+    let mut i: usize = 0;
+    while i < n {
+        let fault = length_fault(sum, lengths[i]);
+        if fault != 0 {
+            return fault;
+        }
+        let next = sum + lengths[i];
+        let letter = letters_fault(letters, wide(sum), wide(next));
+        if letter != 0 {
+            return letter;
+        }
+        sum = next;
+        i += 1;
+    }
+    0
+}
+
+// The edges, each against the one before it.
+pub fn edges_fault(n: u32, m: usize, edges: &[u32]) -> u32
+    requires { ⌜ (m ≤ mostEdges) × (fullEdges ≤ length (now edges)) ⌝ }
+    ensures { λ r. ⌜ r ≡ edgesFault n m 0 noEdge (now (edges .entry)) ⌝ }
+{
+    let mut from: u32 = 0;
+    let mut to: u32 = 0;
+    let mut i: usize = 0;
+    while i < m {
+        let fault = edge_fault(n, from, to, edges[2 * i], edges[2 * i + 1]);
+        if fault != 0 {
+            return fault;
+        }
+        from = edges[2 * i];
+        to = edges[2 * i + 1];
+        i += 1;
+    }
+    0
+}
+
+// The place of the first edge that is not below from - to, looked for from a place on.
+fn skip_edges(m: usize, edges: &[u32], start: usize, from: u32, to: u32) -> usize
+    requires { ⌜ (start ≤ m) × (m ≤ mostEdges) × (fullEdges ≤ length (now edges)) ⌝ }
+    ensures { λ r. ⌜ Passed m (now (edges .entry)) start from to r
+        × (r < m → edgeBelow (edgeIn (now (edges .entry)) r) (record { from = from; to = to }) ≡ false) ⌝ }
+{
+    let mut i = start;
+    while i < m {
+        if !edge_below(edges[2 * i], edges[2 * i + 1], from, to) {
+            return i;
+        }
+        i += 1;
+    }
+    i
+}
+
+// Whether the edge at a place is from - to.
+fn edge_is(m: usize, edges: &[u32], i: usize, from: u32, to: u32) -> bool
+    requires { ⌜ (m ≤ mostEdges) × (fullEdges ≤ length (now edges)) ⌝ }
+    ensures { λ r. ⌜ r ≡ edgeIs m (now (edges .entry)) i from to ⌝ }
+{
+    if i < m {
+        if edges[2 * i] == from {
+            return edges[2 * i + 1] == to;
+        }
+    }
+    false
+}
+
+// A path's vertices, from a place up to another. Paths and edges rise, so that one pass over the edges finds all the path's steps.
+fn vertices_fault(n: u32, m: usize, edges: &[u32], paths: &[u32], start: usize, end: usize) -> u32
+    requires { ⌜ (m ≤ mostEdges) × (fullEdges ≤ length (now edges)) × Rising m (now edges) ⌝ }
+    requires { ⌜ (start < end) × (end ≤ length (now paths)) ⌝ }
+    ensures { λ r. ⌜ r ≡ verticesFault n (edgesIn m 0 (now (edges .entry))) (end - start) start 0 (now (paths .entry)) ⌝ }
+{
+    let head = rise_fault(n, 0, paths[start]);
+    if head != 0 {
+        return head;
+    }
+    let mut place: usize = 0;
+    let mut at = start + 1;
+    while at < end {
+        let fault = rise_fault(n, paths[at - 1], paths[at]);
+        if fault != 0 {
+            return fault;
+        }
+        place = skip_edges(m, edges, place, paths[at - 1], paths[at]);
+        if !edge_is(m, edges, place, paths[at - 1], paths[at]) {
+            return NOT_EDGE;
+        }
+        at += 1;
+    }
+    0
+}
+
+// The paths: each vertex count, and then its vertices.
+pub fn paths_fault(n: u32, m: usize, k: usize, edges: &[u32], paths: &[u32], counts: &[u32]) -> u32
+    requires { ⌜ (m ≤ mostEdges) × (fullEdges ≤ length (now edges)) × Rising m (now edges) ⌝ }
+    requires { ⌜ (n ≤ mostVertices) × (k ≤ mostPaths) × (fullPaths ≤ length (now paths)) × (fullCounts ≤ length (now counts)) ⌝ }
+    ensures { λ r. ⌜ r ≡ pathsFault n (edgesIn m 0 (now (edges .entry))) k 0 (now (paths .entry)) (now (counts .entry)) ⌝ }
+{
+    let mut i: usize = 0;
+    while i < k {
+        let fault = range_fault(1, n, counts[i]);
+        if fault != 0 {
+            return fault;
+        }
+        let start = PATH_ROOM * i;
+        let end = start + wide(counts[i]);
+        let vertex = vertices_fault(n, m, edges, paths, start, end);
+        if vertex != 0 {
+            return vertex;
+        }
+        i += 1;
+    }
+    0
+}

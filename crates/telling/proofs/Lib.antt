@@ -1,0 +1,2 @@
+-- The laws of what the cases write with.
+pub mod Counting

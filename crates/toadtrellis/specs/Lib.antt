@@ -1,0 +1,2 @@
+-- The definitions of the delivered entries.
+pub mod Promises
