@@ -5,8 +5,8 @@
  * A slice is a pointer and then a length, counted in elements. Letters and files are bytes; all other numbers are uint32_t. All numbering is from 1;
  * places in a file count from 0.
  *
- * Every byte string gets a reply. Each answer has the number, the file (1 graph, 2 anchors) and the place of the first fault; an acceptance has 0 in
- * all three. A refusal writes to no buffer that was lent, and its other numbers are 0. No function trusts its caller to have checked a file or a size.
+ * Every byte string gets a reply. Each answer but ToadPart has the number, the file (1 graph, 2 anchors) and the place of the first fault; an
+ * acceptance has 0 in all three. A refusal writes to no buffer that was lent, and its other numbers are 0. No function trusts its caller to have checked a file or a size.
  * What C itself asks is left to the caller: a pointer is not NULL, also where its length is 0, and is valid for its length; and a buffer that is
  * written overlaps no other argument.
  *

@@ -1,7 +1,9 @@
 //! The calls that are measured, of the library and of the Rust program alike.
 
 use crate::library::{self, ToadAnchors, ToadChain, ToadGraph, ToadPart, ToadTables};
-use crate::rust::entries::{self as rust, *};
+use crate::library::{FULL_ANCHORS, FULL_CHAIN, FULL_CLOSED, FULL_COUNTS, FULL_EDGES};
+use crate::library::{FULL_LENGTHS, FULL_LETTERS, FULL_PATHS, FULL_SCORES, FULL_TABLE};
+use crate::rust::entries as rust;
 
 #[derive(Clone, Copy, Debug, PartialEq, Eq)]
 pub enum Who {
@@ -95,7 +97,7 @@ impl Buffers {
             distance: numbers(FULL_TABLE),
             closed: numbers(FULL_CLOSED),
             scores: numbers(FULL_SCORES),
-            chain: numbers(FULL_SCORES),
+            chain: numbers(FULL_CHAIN),
         }
     }
 }
@@ -112,73 +114,54 @@ impl Default for Buffers {
     }
 }
 
+/// A call of the program whose module is named; both have the same entries.
+macro_rules! call_of {
+    ($program:ident, $call:expr, $graph:expr, $file:expr, $b:expr) => {
+        match $call {
+            Call::CheckGraph => Answer::Part($program::letters($graph, &[], 0, 0)),
+            Call::CheckBoth => Answer::Part($program::letters($graph, $file, 0, 0)),
+            Call::ReadGraph => Answer::Graph($program::read_graph(
+                $graph,
+                &mut $b.letters,
+                &mut $b.lengths,
+                &mut $b.edges,
+                &mut $b.paths,
+                &mut $b.counts,
+            )),
+            Call::ReadAnchors => Answer::Anchors($program::read_anchors(
+                $graph,
+                $file,
+                &mut $b.letters,
+                &mut $b.anchors,
+            )),
+            Call::Tables => Answer::Tables($program::tables(
+                $graph,
+                &mut $b.reach,
+                &mut $b.distance,
+                &mut $b.closed,
+            )),
+            Call::Sweep => Answer::Chain($program::sweep(
+                $graph,
+                $file,
+                &mut $b.scores,
+                &mut $b.chain,
+            )),
+            Call::Plain => Answer::Chain($program::plain(
+                $graph,
+                $file,
+                &mut $b.scores,
+                &mut $b.chain,
+            )),
+        }
+    };
+}
+
 /// Makes a call. What it does is counted by this function's name.
 #[no_mangle]
 #[inline(never)]
 pub fn counted_call(who: Who, call: Call, graph: &[u8], file: &[u8], b: &mut Buffers) -> Answer {
     match who {
-        Who::Library => library_call(call, graph, file, b),
-        Who::Rust => rust_call(call, graph, file, b),
-    }
-}
-
-fn library_call(call: Call, graph: &[u8], file: &[u8], b: &mut Buffers) -> Answer {
-    match call {
-        Call::CheckGraph => Answer::Part(library::letters(graph, &[], 0, 0)),
-        Call::CheckBoth => Answer::Part(library::letters(graph, file, 0, 0)),
-        Call::ReadGraph => Answer::Graph(library::read_graph(
-            graph,
-            &mut b.letters,
-            &mut b.lengths,
-            &mut b.edges,
-            &mut b.paths,
-            &mut b.counts,
-        )),
-        Call::ReadAnchors => Answer::Anchors(library::read_anchors(
-            graph,
-            file,
-            &mut b.letters,
-            &mut b.anchors,
-        )),
-        Call::Tables => Answer::Tables(library::tables(
-            graph,
-            &mut b.reach,
-            &mut b.distance,
-            &mut b.closed,
-        )),
-        Call::Sweep => Answer::Chain(library::sweep(graph, file, &mut b.scores, &mut b.chain)),
-        Call::Plain => Answer::Chain(library::plain(graph, file, &mut b.scores, &mut b.chain)),
-    }
-}
-
-fn rust_call(call: Call, graph: &[u8], file: &[u8], b: &mut Buffers) -> Answer {
-    match call {
-        Call::CheckGraph => Answer::Part(rust::letters(graph, &[], 0, 0)),
-        Call::CheckBoth => Answer::Part(rust::letters(graph, file, 0, 0)),
-        Call::ReadGraph => Answer::Graph(
-            rust::read_graph(
-                graph,
-                &mut b.letters,
-                &mut b.lengths,
-                &mut b.edges,
-                &mut b.paths,
-                &mut b.counts,
-            )
-            .unwrap_or_else(ToadGraph::from),
-        ),
-        Call::ReadAnchors => Answer::Anchors(
-            rust::read_anchors(graph, file, &mut b.letters, &mut b.anchors)
-                .unwrap_or_else(ToadAnchors::from),
-        ),
-        Call::Tables => Answer::Tables(
-            rust::tables(graph, &mut b.reach, &mut b.distance, &mut b.closed)
-                .unwrap_or_else(ToadTables::from),
-        ),
-        Call::Sweep => Answer::Chain(
-            rust::sweep(graph, file, &mut b.scores, &mut b.chain).unwrap_or_else(ToadChain::from),
-        ),
-        Call::Plain => Answer::Chain(
-            rust::plain(graph, file, &mut b.scores, &mut b.chain).unwrap_or_else(ToadChain::from),
-        ),
+        Who::Library => call_of!(library, call, graph, file, b),
+        Who::Rust => call_of!(rust, call, graph, file, b),
     }
 }

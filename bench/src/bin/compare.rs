@@ -6,15 +6,17 @@
 //! every place of every lent buffer are compared, also before it, past its full
 //! size and past its end. The last line is `N passed, M failed`.
 
-use bench::library::{self, ToadAnchors, ToadChain, ToadGraph, ToadPart, ToadTables, ToadWritten};
+use bench::library::{self, Engine, Refusal, Refused, SMALL_BUFFER};
+use bench::library::{ToadAnchors, ToadChain, ToadGraph, ToadPart, ToadTables, ToadWritten};
 
 use second::anchor_file::{self, AnchorFile};
-use second::answer::Refusal;
 use second::graph_file::{self, GraphFile};
 use second::judge::Digest;
 use second::limits::*;
+use second::number::Fault;
 use second::prng::Prng;
 use second::writers::{AnchorContent, GraphContent};
+use std::fmt::Debug;
 use std::fs;
 use std::path::Path;
 use std::process::ExitCode;
@@ -94,13 +96,25 @@ impl Run {
     /// A buffer of full size, or with some places more.
     fn lent<T: Filled>(&mut self, full: usize) -> Lent<T> {
         let more = self.prng.pick(&[0, 0, 1, 100]);
-        Lent::new(&self.filling, &mut self.prng, full + more)
+        Lent::new(self, full, full + more)
     }
 
-    /// A buffer below full size.
-    fn short<T: Filled>(&mut self, full: usize) -> Lent<T> {
-        let size = self.prng.pick(&[full - 1, full - 1, full / 2, 0]);
-        Lent::new(&self.filling, &mut self.prng, size)
+    /// Makes one of the buffers of a call too small, each in one of `calls`.
+    fn shorten(&mut self, calls: usize, lent: &mut [&mut dyn Room]) {
+        if let Some(lent) = lent.get_mut(self.prng.below(calls)) {
+            lent.shorten(self);
+        }
+    }
+
+    /// A writer's output, of any size.
+    fn output(&mut self, size: usize) -> Lent<u8> {
+        Lent::new(self, 0, size)
+    }
+
+    /// A writer's output that has room for a file.
+    fn output_for(&mut self, file: &[u8]) -> Lent<u8> {
+        let more = self.prng.pick(&[0, 0, 1, 1_000]);
+        self.output(file.len() + more)
     }
 }
 
@@ -128,24 +142,23 @@ impl<'a> Bytes<'a> {
     }
 
     /// A buffer given by its size and by the runs that do not hold 0.
-    fn letters(&mut self) -> Vec<u8> {
-        let mut buffer = vec![0; self.number() as usize];
+    fn runs<T: Clone + Default>(&mut self, one: fn(&mut Bytes<'a>) -> T) -> Vec<T> {
+        let mut buffer = vec![T::default(); self.number() as usize];
         for _ in 0..self.number() {
             let [first, count] = [self.number(), self.number()].map(|x| x as usize);
-            buffer[first..first + count].copy_from_slice(self.take(count));
+            for place in &mut buffer[first..first + count] {
+                *place = one(self);
+            }
         }
         buffer
     }
 
+    fn letters(&mut self) -> Vec<u8> {
+        self.runs(Bytes::byte)
+    }
+
     fn numbers(&mut self) -> Vec<u32> {
-        let mut buffer = vec![0; self.number() as usize];
-        for _ in 0..self.number() {
-            let [first, count] = [self.number(), self.number()].map(|x| x as usize);
-            for place in &mut buffer[first..first + count] {
-                *place = self.number();
-            }
-        }
-        buffer
+        self.runs(Bytes::number)
     }
 }
 
@@ -188,6 +201,7 @@ impl Filled for u32 {
 struct Lent<T> {
     room: Vec<T>,
     before: Vec<T>,
+    full: usize,
     size: usize,
 }
 
@@ -195,14 +209,15 @@ struct Lent<T> {
 const MARGIN: usize = 64;
 
 impl<T: Filled> Lent<T> {
-    fn new(filling: &Filling, prng: &mut Prng, size: usize) -> Lent<T> {
-        let filling = T::filling(filling);
+    fn new(run: &mut Run, full: usize, size: usize) -> Lent<T> {
+        let filling = T::filling(&run.filling);
         let whole = size + 2 * MARGIN;
-        let start = prng.below(filling.len() - whole);
+        let start = run.prng.below(filling.len() - whole);
         let before = filling[start..start + whole].to_vec();
         Lent {
             room: before.clone(),
             before,
+            full,
             size,
         }
     }
@@ -215,10 +230,6 @@ impl<T: Filled> Lent<T> {
         &self.room[MARGIN..MARGIN + self.size]
     }
 
-    fn untouched(&self) -> bool {
-        self.room == self.before
-    }
-
     /// The front holds this, and all else what it held before.
     fn holds(&self, front: &[T]) -> bool {
         let end = MARGIN + front.len();
@@ -226,17 +237,61 @@ impl<T: Filled> Lent<T> {
             && self.room[MARGIN..end] == *front
             && self.room[end..] == self.before[end..]
     }
+
+    /// Whether only so many places at the front were written.
+    fn only_front(&self, places: usize) -> bool {
+        self.holds(&self.used()[..places])
+    }
+}
+
+/// A lent buffer, whatever its places hold.
+trait Room {
+    fn small(&self) -> bool;
+    fn untouched(&self) -> bool;
+
+    /// Makes it a buffer below full size.
+    fn shorten(&mut self, run: &mut Run);
+}
+
+impl<T: Filled> Room for Lent<T> {
+    fn small(&self) -> bool {
+        self.size < self.full
+    }
+
+    fn untouched(&self) -> bool {
+        self.room == self.before
+    }
+
+    fn shorten(&mut self, run: &mut Run) {
+        let full = self.full;
+        let size = run.prng.pick(&[full - 1, full - 1, full / 2, 0]);
+        *self = Lent::new(run, full, size);
+    }
+}
+
+/// What is expected: content of some kind, or a refusal.
+type Expected<T> = Result<T, Refusal>;
+
+/// What a line expects: a refusal, or the numbers after its first words.
+fn expected_of(line: &str, words: &str) -> Expected<Vec<u64>> {
+    match refusal_of(line) {
+        Some(refusal) => Err(refusal),
+        None => Ok(numbers_of(line.strip_prefix(words).expect("its words"))),
+    }
 }
 
 /// `refused NUMBER file FILE place PLACE`, as an answer begins.
-fn refusal_of(line: &str) -> Option<[u32; 3]> {
+fn refusal_of(line: &str) -> Option<Refusal> {
     let words: Vec<&str> = line.split(' ').collect();
-    match words[..] {
-        ["refused", number, "file", file, "place", place] => {
-            Some([number, file, place].map(|word| word.parse().expect("a number")))
-        }
-        _ => None,
-    }
+    let ["refused", number, "file", file, "place", place] = words[..] else {
+        return None;
+    };
+    let [number, file, place] = [number, file, place].map(|word| word.parse().expect("a number"));
+    Some(Refusal {
+        number,
+        file,
+        place,
+    })
 }
 
 fn numbers_of(line: &str) -> Vec<u64> {
@@ -244,73 +299,134 @@ fn numbers_of(line: &str) -> Vec<u64> {
     line.split(' ').map(number).collect()
 }
 
-fn words_of(refusal: Refusal) -> [u32; 3] {
-    [refusal.number, refusal.file, refusal.place as u32]
+/// A fault that the second program finds in the file named.
+fn of_file(file: u32) -> impl Fn(Fault) -> Refusal {
+    move |fault| Refusal {
+        number: fault.number,
+        file,
+        place: fault.place as u32,
+    }
+}
+
+/// The second program's reader must say what its line says.
+fn agreed<T>(read: &Expected<T>, expected: &Expected<Vec<u64>>) -> Checked {
+    let refusal = read.as_ref().err();
+    expect!(
+        refusal == expected.as_ref().err(),
+        "the second program says {refusal:?}"
+    );
+    Ok(())
+}
+
+/// The content that a call must have accepted; None where it had to refuse,
+/// which is checked here: by its answer, and by every place lent to it.
+fn accepted<T, A: Refused + PartialEq + Debug>(
+    name: &str,
+    answer: &A,
+    lent: &[&dyn Room],
+    expected: Expected<T>,
+) -> Result<Option<T>, String> {
+    let small = lent.iter().any(|lent| lent.small());
+    let refusal = match expected {
+        _ if small => SMALL_BUFFER,
+        Ok(content) => return Ok(Some(content)),
+        Err(refusal) => refusal,
+    };
+    answered(name, answer, &A::refused(refusal))?;
+    expect!(
+        lent.iter().all(|lent| lent.untouched()),
+        "{name} refused {} and wrote",
+        refusal.number
+    );
+    Ok(None)
+}
+
+/// The answer of a call is the one wanted.
+fn answered<A: PartialEq + Debug>(name: &str, answer: &A, wanted: &A) -> Checked {
+    expect!(answer == wanted, "{name}: {answer:?}");
+    Ok(())
+}
+
+/// The writer on what was read must give the file back.
+fn given_back(name: &str, answer: &ToadWritten, out: &Lent<u8>, file: &[u8]) -> Checked {
+    let name = format!("{name} of what was read");
+    answered(&name, answer, &written(file.len() as u32))?;
+    expect!(out.holds(file), "{name}: other bytes");
+    Ok(())
+}
+
+/// A writer's answer where it wrote so many bytes.
+fn written(bytes: u32) -> ToadWritten {
+    ToadWritten {
+        bytes,
+        ..ToadWritten::default()
+    }
+}
+
+/// The buffers, each with its name, hold what the digest is of. It is of the
+/// full sizes, so unused places must hold 0; past them nothing was written.
+fn digested(name: &str, lent: &[(&str, &Lent<u32>)], wanted: u64) -> Checked {
+    let mut digest = Digest::new();
+    for (_, lent) in lent {
+        digest.numbers(&lent.used()[..lent.full]);
+    }
+    expect!(digest.value() == wanted, "{name}: other entries");
+    for (buffer, lent) in lent {
+        expect!(
+            lent.only_front(lent.full),
+            "{name}: {buffer} past the full size"
+        );
+    }
+    Ok(())
 }
 
 /// One case of the corpus: kind 1 has both files, kind 2 the graph file only.
 fn case(run: &mut Run, kind: u8, bytes: &mut Bytes, line: &str) -> Checked {
     let graph = bytes.file();
     let anchors = bytes.file();
-    let graph_file = graph_file::read_graph(graph).map_err(|fault| Refusal::of(fault, 1));
+    let expected = expected_of(line, "");
+    let graph_file = graph_file::read_graph(graph).map_err(of_file(1));
     graph_reading(run, graph, &graph_file)?;
     if kind == 2 {
-        let refusal = graph_file.as_ref().err().copied().map(words_of);
-        expect!(
-            refusal == refusal_of(line),
-            "the second program says {refusal:?}"
-        );
+        agreed(&graph_file, &expected)?;
     }
-    let expected = match refusal_of(line) {
-        None => Ok(numbers_of(line)),
-        Some(refusal) => Err(refusal),
-    };
+    let numbers = expected.as_deref().map_err(|&refusal| refusal);
     // The tables have their numbers in the line; where only the anchor file is
     // refused there are none, and the call is not made.
-    let graph_refused = graph_file.as_ref().err().copied().map(words_of);
-    match (&expected, graph_refused) {
-        (Ok(numbers), None) => making_tables(run, graph, Ok(numbers))?,
-        (Err(_), None) => (),
-        (_, Some(refusal)) => making_tables(run, graph, Err(refusal))?,
+    match (numbers, &graph_file) {
+        (Ok(_), Ok(_)) => making_tables(run, graph, numbers)?,
+        (Err(_), Ok(_)) => (),
+        (_, Err(refusal)) => making_tables(run, graph, Err(*refusal))?,
     }
     if kind == 1 {
         let both = graph_file.and_then(|graph_file| {
-            anchor_file::read_anchors(&graph_file.graph, anchors)
-                .map_err(|fault| Refusal::of(fault, 2))
+            anchor_file::read_anchors(&graph_file.graph, anchors).map_err(of_file(2))
         });
-        let refusal = both.as_ref().err().copied().map(words_of);
-        expect!(
-            refusal == refusal_of(line),
-            "the second program says {refusal:?}"
-        );
+        agreed(&both, &expected)?;
         anchor_reading(run, graph, anchors, &both)?;
-        let expected = expected.as_deref().map_err(|&refusal| refusal);
-        chaining(run, graph, anchors, expected, library::sweep, true)?;
-        chaining(run, graph, anchors, expected, library::plain, false)?;
+        chaining(run, graph, anchors, numbers, library::sweep, true)?;
+        chaining(run, graph, anchors, numbers, library::plain, false)?;
     }
     Ok(())
 }
 
 /// The graph reader; with a buffer too small; and the writer on what was read.
-fn graph_reading(run: &mut Run, file: &[u8], expected: &Result<GraphFile, Refusal>) -> Checked {
+fn graph_reading(run: &mut Run, file: &[u8], expected: &Expected<GraphFile>) -> Checked {
     let mut letters = run.lent(LETTERS_SIZE);
     let mut lengths = run.lent(LENGTHS_SIZE);
     let mut edges = run.lent(EDGES_SIZE);
     let mut paths = run.lent(PATHS_SIZE);
     let mut counts = run.lent(COUNTS_SIZE);
-    match run.prng.below(20) {
-        0 => letters = run.short(LETTERS_SIZE),
-        1 => lengths = run.short(LENGTHS_SIZE),
-        2 => edges = run.short(EDGES_SIZE),
-        3 => paths = run.short(PATHS_SIZE),
-        4 => counts = run.short(COUNTS_SIZE),
-        _ => (),
-    }
-    let small = letters.size < LETTERS_SIZE
-        || lengths.size < LENGTHS_SIZE
-        || edges.size < EDGES_SIZE
-        || paths.size < PATHS_SIZE
-        || counts.size < COUNTS_SIZE;
+    run.shorten(
+        20,
+        &mut [
+            &mut letters,
+            &mut lengths,
+            &mut edges,
+            &mut paths,
+            &mut counts,
+        ],
+    );
     let answer = library::read_graph(
         file,
         letters.buffer(),
@@ -319,47 +435,27 @@ fn graph_reading(run: &mut Run, file: &[u8], expected: &Result<GraphFile, Refusa
         paths.buffer(),
         counts.buffer(),
     );
-    let refused = match expected {
-        _ if small => Some([13, 0, 0]),
-        Err(refusal) => Some(words_of(*refusal)),
-        Ok(_) => None,
-    };
-    if let Some([number, file, place]) = refused {
-        let wanted = ToadGraph {
-            number,
-            file,
-            place,
-            ..ToadGraph::default()
-        };
-        expect!(answer == wanted, "read_graph: {answer:?}");
-        expect!(
-            letters.untouched()
-                && lengths.untouched()
-                && edges.untouched()
-                && paths.untouched()
-                && counts.untouched(),
-            "read_graph refused {number} and wrote"
-        );
+    let lent: [&dyn Room; 5] = [&letters, &lengths, &edges, &paths, &counts];
+    let expected = expected.as_ref().map_err(|&refusal| refusal);
+    let Some(graph_file) = accepted("read_graph", &answer, &lent, expected)? else {
         return Ok(());
-    }
-    let graph = &expected.as_ref().expect("accepted").graph;
-    let content = GraphContent::of(graph);
+    };
+    let content = GraphContent::of(&graph_file.graph);
     let wanted = ToadGraph {
         vertices: content.n,
-        letters: graph.letters() as u32,
+        letters: graph_file.graph.letters() as u32,
         edges: content.m,
         paths: content.k,
         ..ToadGraph::default()
     };
-    expect!(answer == wanted, "read_graph: {answer:?}");
+    answered("read_graph", &answer, &wanted)?;
     expect!(letters.holds(&content.letters), "read_graph: letters");
     expect!(lengths.holds(&content.lengths), "read_graph: lengths");
     expect!(edges.holds(&content.edges), "read_graph: edges");
     expect!(paths.holds(&content.paths), "read_graph: paths");
     expect!(counts.holds(&content.counts), "read_graph: counts");
-    let room = file.len() + run.prng.pick(&[0, 0, 1, 1_000]);
-    let mut out = Lent::new(&run.filling, &mut run.prng, room);
-    let written = library::write_graph(
+    let mut out = run.output_for(file);
+    let answer = library::write_graph(
         content.n,
         content.m,
         content.k,
@@ -370,48 +466,19 @@ fn graph_reading(run: &mut Run, file: &[u8], expected: &Result<GraphFile, Refusa
         counts.used(),
         out.buffer(),
     );
-    let wanted = ToadWritten {
-        bytes: file.len() as u32,
-        ..ToadWritten::default()
-    };
-    expect!(
-        written == wanted,
-        "write_graph of what was read: {written:?}"
-    );
-    expect!(out.holds(file), "write_graph of what was read: other bytes");
-    Ok(())
+    given_back("write_graph", &answer, &out, file)
 }
 
 /// The tables. What is expected is a refusal, or the numbers of the line.
-fn making_tables(run: &mut Run, file: &[u8], expected: Result<&Vec<u64>, [u32; 3]>) -> Checked {
+fn making_tables(run: &mut Run, file: &[u8], expected: Expected<&[u64]>) -> Checked {
     let mut reach = run.lent(TABLE_SIZE);
     let mut distance = run.lent(TABLE_SIZE);
     let mut closed = run.lent(CLOSED_SIZE);
-    match run.prng.below(15) {
-        0 => reach = run.short(TABLE_SIZE),
-        1 => distance = run.short(TABLE_SIZE),
-        2 => closed = run.short(CLOSED_SIZE),
-        _ => (),
-    }
-    let small = reach.size < TABLE_SIZE || distance.size < TABLE_SIZE || closed.size < CLOSED_SIZE;
+    run.shorten(15, &mut [&mut reach, &mut distance, &mut closed]);
     let answer = library::tables(file, reach.buffer(), distance.buffer(), closed.buffer());
-    let expected = if small { Err([13, 0, 0]) } else { expected };
-    let line = match expected {
-        Ok(line) => line,
-        Err([number, file, place]) => {
-            let wanted = ToadTables {
-                number,
-                file,
-                place,
-                ..ToadTables::default()
-            };
-            expect!(answer == wanted, "tables: {answer:?}");
-            expect!(
-                reach.untouched() && distance.untouched() && closed.untouched(),
-                "tables refused {number} and wrote"
-            );
-            return Ok(());
-        }
+    let lent: [&dyn Room; 3] = [&reach, &distance, &closed];
+    let Some(line) = accepted("tables", &answer, &lent, expected)? else {
+        return Ok(());
     };
     let wanted = ToadTables {
         vertices: line[0] as u32,
@@ -420,31 +487,13 @@ fn making_tables(run: &mut Run, file: &[u8], expected: Result<&Vec<u64>, [u32; 3
         distance_rounds: line[5] as u32,
         ..ToadTables::default()
     };
-    expect!(answer == wanted, "tables: {answer:?}");
-    // The digest is of the full sizes, so unused places must hold 0.
-    let mut digest = Digest::new();
-    digest.numbers(&reach.used()[..TABLE_SIZE]);
-    digest.numbers(&distance.used()[..TABLE_SIZE]);
-    digest.numbers(&closed.used()[..CLOSED_SIZE]);
-    expect!(digest.value() == line[6], "tables: other entries");
-    expect!(
-        only_front(&reach, TABLE_SIZE),
-        "tables: reach past its full size"
-    );
-    expect!(
-        only_front(&distance, TABLE_SIZE),
-        "tables: distance past its full size"
-    );
-    expect!(
-        only_front(&closed, CLOSED_SIZE),
-        "tables: closed past its full size"
-    );
-    Ok(())
-}
-
-/// Whether only the places up to the full size were written.
-fn only_front<T: Filled>(lent: &Lent<T>, full: usize) -> bool {
-    lent.holds(&lent.used()[..full])
+    answered("tables", &answer, &wanted)?;
+    let lent = [
+        ("reach", &reach),
+        ("distance", &distance),
+        ("closed", &closed),
+    ];
+    digested("tables", &lent, line[6])
 }
 
 /// The anchor reader; with a buffer too small; and the writer on what was read.
@@ -452,48 +501,28 @@ fn anchor_reading(
     run: &mut Run,
     graph: &[u8],
     file: &[u8],
-    expected: &Result<AnchorFile, Refusal>,
+    expected: &Expected<AnchorFile>,
 ) -> Checked {
     let mut letters = run.lent(LETTERS_SIZE);
     let mut anchors = run.lent(ANCHORS_SIZE);
-    match run.prng.below(15) {
-        0 => letters = run.short(LETTERS_SIZE),
-        1 => anchors = run.short(ANCHORS_SIZE),
-        _ => (),
-    }
-    let small = letters.size < LETTERS_SIZE || anchors.size < ANCHORS_SIZE;
+    run.shorten(15, &mut [&mut letters, &mut anchors]);
     let answer = library::read_anchors(graph, file, letters.buffer(), anchors.buffer());
-    let refused = match expected {
-        _ if small => Some([13, 0, 0]),
-        Err(refusal) => Some(words_of(*refusal)),
-        Ok(_) => None,
-    };
-    if let Some([number, file, place]) = refused {
-        let wanted = ToadAnchors {
-            number,
-            file,
-            place,
-            ..ToadAnchors::default()
-        };
-        expect!(answer == wanted, "read_anchors: {answer:?}");
-        expect!(
-            letters.untouched() && anchors.untouched(),
-            "read_anchors refused {number} and wrote"
-        );
+    let expected = expected.as_ref().map_err(|&refusal| refusal);
+    let Some(anchor_file) = accepted("read_anchors", &answer, &[&letters, &anchors], expected)?
+    else {
         return Ok(());
-    }
-    let content = AnchorContent::of(&expected.as_ref().expect("accepted").content);
+    };
+    let content = AnchorContent::of(&anchor_file.content);
     let wanted = ToadAnchors {
         letters: content.r,
         anchors: content.count,
         ..ToadAnchors::default()
     };
-    expect!(answer == wanted, "read_anchors: {answer:?}");
+    answered("read_anchors", &answer, &wanted)?;
     expect!(letters.holds(&content.letters), "read_anchors: letters");
     expect!(anchors.holds(&content.anchors), "read_anchors: anchors");
-    let room = file.len() + run.prng.pick(&[0, 0, 1, 1_000]);
-    let mut out = Lent::new(&run.filling, &mut run.prng, room);
-    let written = library::write_anchors(
+    let mut out = run.output_for(file);
+    let answer = library::write_anchors(
         content.r,
         content.count,
         letters.used(),
@@ -501,60 +530,25 @@ fn anchor_reading(
         graph,
         out.buffer(),
     );
-    let wanted = ToadWritten {
-        bytes: file.len() as u32,
-        ..ToadWritten::default()
-    };
-    expect!(
-        written == wanted,
-        "write_anchors of what was read: {written:?}"
-    );
-    expect!(
-        out.holds(file),
-        "write_anchors of what was read: other bytes"
-    );
-    Ok(())
+    given_back("write_anchors", &answer, &out, file)
 }
-
-/// An engine of the library: both files; scores and chain.
-type Engine = fn(&[u8], &[u8], &mut [u32], &mut [u32]) -> ToadChain;
 
 /// One engine. What is expected is a refusal, or the numbers of the line.
 fn chaining(
     run: &mut Run,
     graph: &[u8],
     file: &[u8],
-    expected: Result<&[u64], [u32; 3]>,
+    expected: Expected<&[u64]>,
     engine: Engine,
     sweeping: bool,
 ) -> Checked {
     let name = if sweeping { "sweep" } else { "plain" };
     let mut scores = run.lent(SCORES_SIZE);
     let mut chain = run.lent(CHAIN_SIZE);
-    match run.prng.below(15) {
-        0 => scores = run.short(SCORES_SIZE),
-        1 => chain = run.short(CHAIN_SIZE),
-        _ => (),
-    }
-    let small = scores.size < SCORES_SIZE || chain.size < CHAIN_SIZE;
+    run.shorten(15, &mut [&mut scores, &mut chain]);
     let answer = engine(graph, file, scores.buffer(), chain.buffer());
-    let expected = if small { Err([13, 0, 0]) } else { expected };
-    let line = match expected {
-        Ok(line) => line,
-        Err([number, file, place]) => {
-            let wanted = ToadChain {
-                number,
-                file,
-                place,
-                ..ToadChain::default()
-            };
-            expect!(answer == wanted, "{name}: {answer:?}");
-            expect!(
-                scores.untouched() && chain.untouched(),
-                "{name} refused {number} and wrote"
-            );
-            return Ok(());
-        }
+    let Some(line) = accepted(name, &answer, &[&scores, &chain], expected)? else {
+        return Ok(());
     };
     let wanted = ToadChain {
         anchors: line[8] as u32,
@@ -563,77 +557,50 @@ fn chaining(
         length: line[11] as u32,
         ..ToadChain::default()
     };
-    expect!(answer == wanted, "{name}: {answer:?}");
-    let mut digest = Digest::new();
-    digest.numbers(&scores.used()[..SCORES_SIZE]);
-    digest.numbers(&chain.used()[..CHAIN_SIZE]);
-    expect!(
-        digest.value() == line[12],
-        "{name}: other scores or another chain"
-    );
-    expect!(
-        only_front(&scores, SCORES_SIZE),
-        "{name}: scores past their full size"
-    );
-    expect!(
-        only_front(&chain, CHAIN_SIZE),
-        "{name}: chain past its full size"
-    );
-    Ok(())
+    answered(name, &answer, &wanted)?;
+    digested(name, &[("scores", &scores), ("chain", &chain)], line[12])
 }
 
 /// One case of a writer: kind 1 the graph writer, kind 2 the anchor writer.
 fn writer_case(run: &mut Run, kind: u8, bytes: &mut Bytes, line: &str) -> Checked {
     let room = bytes.number() as usize;
-    let mut out: Lent<u8> = Lent::new(&run.filling, &mut run.prng, room);
-    let answer = if kind == 1 {
-        let [n, m, k] = [bytes.number(), bytes.number(), bytes.number()];
-        let letters = bytes.letters();
-        let lengths = bytes.numbers();
-        let edges = bytes.numbers();
-        let paths = bytes.numbers();
-        let counts = bytes.numbers();
-        library::write_graph(
-            n,
-            m,
-            k,
-            &letters,
-            &lengths,
-            &edges,
-            &paths,
-            &counts,
-            out.buffer(),
-        )
+    let mut out = run.output(room);
+    let (name, answer) = if kind == 1 {
+        ("write_graph", graph_writing(bytes, out.buffer()))
     } else {
-        let graph = bytes.file();
-        let [r, n] = [bytes.number(), bytes.number()];
-        let letters = bytes.letters();
-        let anchors = bytes.numbers();
-        library::write_anchors(r, n, &letters, &anchors, graph, out.buffer())
+        ("write_anchors", anchor_writing(bytes, out.buffer()))
     };
-    if let Some([number, file, place]) = refusal_of(line) {
-        let wanted = ToadWritten {
-            number,
-            file,
-            place,
-            bytes: 0,
-        };
-        expect!(answer == wanted, "{answer:?}");
-        expect!(out.untouched(), "refused {number} and wrote");
+    let expected = expected_of(line, "written ");
+    let Some(numbers) = accepted(name, &answer, &[&out], expected)? else {
         return Ok(());
-    }
-    let numbers = numbers_of(line.strip_prefix("written ").expect("a writer's line"));
-    let wanted = ToadWritten {
-        bytes: numbers[0] as u32,
-        ..ToadWritten::default()
     };
-    expect!(answer == wanted, "{answer:?}");
+    answered(name, &answer, &written(numbers[0] as u32))?;
     let length = numbers[0] as usize;
     let mut digest = Digest::new();
     digest.bytes(&out.used()[..length]);
-    expect!(digest.value() == numbers[1], "other bytes");
-    expect!(only_front(&out, length), "wrote past the last byte");
+    expect!(digest.value() == numbers[1], "{name}: other bytes");
+    expect!(out.only_front(length), "{name} wrote past the last byte");
     Ok(())
+}
+
+/// The graph writer on a case's content.
+fn graph_writing(bytes: &mut Bytes, out: &mut [u8]) -> ToadWritten {
+    let [n, m, k] = [bytes.number(), bytes.number(), bytes.number()];
+    let letters = bytes.letters();
+    let lengths = bytes.numbers();
+    let edges = bytes.numbers();
+    let paths = bytes.numbers();
+    let counts = bytes.numbers();
+    library::write_graph(n, m, k, &letters, &lengths, &edges, &paths, &counts, out)
+}
+
+/// The anchor writer on a case's graph file and content.
+fn anchor_writing(bytes: &mut Bytes, out: &mut [u8]) -> ToadWritten {
+    let graph = bytes.file();
+    let [r, n] = [bytes.number(), bytes.number()];
+    let letters = bytes.letters();
+    let anchors = bytes.numbers();
+    library::write_anchors(r, n, &letters, &anchors, graph, out)
 }
 
 /// One case of the letters of an anchor.

@@ -37,9 +37,13 @@ pub record AnchorBuffers : Type 0 where
   pub letters : List ℕ
   pub anchors : List ℕ
 
--- each has full size: "letters 32,768", "anchors 10,240 numbers"
+-- full size, by the lengths of the buffers: "letters 32,768", "anchors 10,240 numbers"
+abbrev pub roomForAnchors : ℕ → ℕ → Bool
+roomForAnchors letters anchors = _&&_ (leb fullLetters letters) (leb fullAnchors anchors)
+
+-- each has full size
 unfoldable pub roomyAnchors : AnchorBuffers → Bool
-roomyAnchors b = _&&_ (leb fullLetters (length (b .letters))) (leb fullAnchors (length (b .anchors)))
+roomyAnchors b = roomForAnchors (length (b .letters)) (length (b .anchors))
 
 -- 13, then both files
 unfoldable pub readAnchorsReply : List ℕ → List ℕ → AnchorBuffers → Reply Both

@@ -13,10 +13,10 @@ use Rattle.graph_check.specs.declared.Checked.the-variants as graph
 use Rattle.anchors.specs.AnchorReading.{ParsedAnchors, anchorsOf}
 use Rattle.anchors.specs.AnchorEntries.{bothReply}
 use Rattle.anchors_check.specs.CheckedAnchors.{anchorSectionsOf, checkedAnchorsOf}
-use Rattle.anchors_check.specs.LabelTables.{parsedOf, contentOf, Accepts, LabelsAt}
+use Rattle.anchors_parts.specs.LabelTables.{parsedOf, contentOf, Accepts, LabelsAt}
 use Rattle.anchors_check.specs.declared.AnchorSections.{AnchorSections}
 use Rattle.anchors_check.specs.declared.CheckedAnchors.the-variants as checked
-use Rattle.anchors_check.proofs.LabelLaws.{accepts, parsed-is}
+use Rattle.anchors_parts.proofs.LabelLaws.{accepts, parsed-is}
 
 -- ---- what a check answered was found
 

@@ -1,6 +1,2 @@
-pub mod LabelLaws
-pub mod OneLaws
-pub mod EachLaws
 pub mod OverLaws
 pub mod BothLaws
-pub mod Viewing

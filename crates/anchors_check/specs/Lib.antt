@@ -1,5 +1,2 @@
 -- The definitions that the check of the anchor file goes by, beside those of the anchor file.
-pub mod LabelTables
-pub mod OneAnchor
 pub mod CheckedAnchors
-pub mod Viewed

@@ -1,12 +1,8 @@
 // The check of the anchor file: the definitions are in the crate anchors, and the check here decides without writing.
-pub mod labels; // labels.rt: where the labels lie in the graph file
-pub mod one; // one.rt: one anchor
-pub mod each; // each.rt: the anchors of a file, one by one
-pub mod view; // view.rt: the letters of one anchor
 
-use crate::each::check_each;
-use crate::labels::label_places;
-use crate::labels::label_table;
+use anchors_parts::each::check_each;
+use anchors_parts::labels::label_places;
+use anchors_parts::labels::label_table;
 use graph_check::Checked;
 use graph_check::check_graph;
 use graph_parts::counts::read_count;
@@ -27,7 +23,7 @@ ghost use mathlib.Core.Path.{_≡_};
 ghost use Rattle.anchors.specs.AnchorReading.{anchorsOf};
 ghost use Rattle.anchors.specs.AnchorEntries.{bothReply};
 ghost use Rattle.anchors_check.specs.CheckedAnchors.{checkedAnchorsOf, checkedBothOf, anchorsRefused, graphFileRefused, anchorFileRefused};
-ghost use Rattle.anchors_check.specs.LabelTables.{LabelTables, contentOf};
+ghost use Rattle.anchors_parts.specs.LabelTables.{LabelTables, contentOf};
 
 // r and N of an accepted file, and the places where the read's letters and the anchors start.
 pub struct AnchorSections {

@@ -11,8 +11,8 @@ use Rattle.wire.specs.Lent.{laid}
 use Rattle.wire.specs.Refusals.{smallBuffer}
 use Rattle.wire.specs.Sizes.{mostRead, mostAnchors, fullLetters, fullAnchors}
 use Rattle.graph_check.specs.declared.Sections.{Sections}
-use Rattle.graph_read.specs.Filling.{numbersIn}
-use Rattle.graph_read.proofs.Decoding.{letters-are}
+use Rattle.graph_fill.specs.Filling.{numbersIn}
+use Rattle.graph_fill.proofs.Decoding.{letters-are}
 use Rattle.anchors.specs.Anchors.{perAnchor, anchorNumbers}
 use Rattle.anchors.specs.AnchorEntries.{Both, bothReply, AnchorBuffers, roomyAnchors, readAnchorsReply, filledAnchors}
 use Rattle.anchors_check.specs.CheckedAnchors.{anchorSectionsOf, checkedBothOf}

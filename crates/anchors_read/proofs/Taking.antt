@@ -6,8 +6,8 @@ use mathlib.Core.List.{List}
 use native.Mathlib.Omega.{arith}
 use Rattle.wire.specs.Found.{good, Part}
 use Rattle.graph.specs.Content.{Graph}
-use Rattle.graph_read.specs.Filling.{items, numbersIn}
-use Rattle.graph_read.proofs.Decoding.{number-is}
+use Rattle.graph_fill.specs.Filling.{items, numbersIn}
+use Rattle.graph_fill.proofs.Decoding.{number-is}
 use Rattle.anchors.specs.Anchors.{Anchor, perAnchor, anchorNumbers}
 use Rattle.anchors.specs.AnchorReading.{anchorsFrom}
 use Rattle.anchors.proofs.AnchorSteps.{numbers-step, anchors-step, anchors-none}

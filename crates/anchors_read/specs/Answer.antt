@@ -2,10 +2,7 @@
 use Prim.Native.Nat.{ℕ}
 use mathlib.Core.Path.{_≡_, sym, _∙_}
 use mathlib.Core.List.{List}
-use mathlib.Core.Bool.{Bool, _&&_}
-use lib.Dec.{leb}
 use Rattle.wire.specs.Found.{Reply, accepted, refused}
-use Rattle.wire.specs.Sizes.{fullLetters, fullAnchors}
 use Rattle.anchors.specs.Anchors.{readLength, anchorCount}
 use Rattle.anchors.specs.AnchorEntries.{Both, AnchorBuffers, readAnchorsReply, readAnchorsAfter}
 use Rattle.anchors_check.specs.declared.AnchorSections.{AnchorSections}
@@ -36,7 +33,3 @@ pub record Answered (graph file : List ℕ) (b after : AnchorBuffers) (r : Ancho
 pub one-answer : (graph file : List ℕ) (b x y : AnchorBuffers) (r q : AnchorsAnswer) → Answered graph file b x r → Answered graph file b y q
     → (r ≡ q) × (x ≡ y)
 one-answer graph file b x y r q h k = (h .answer ∙ sym (k .answer), h .buffers ∙ sym (k .buffers))
-
--- the room test on the buffers' lengths
-abbrev pub roomFor : ℕ → ℕ → Bool
-roomFor letters anchors = _&&_ (leb fullLetters letters) (leb fullAnchors anchors)

@@ -1,6 +1,6 @@
 // The content of an accepted anchor file: the read's letters, and the anchors' numbers.
 use anchors::PER_ANCHOR;
-use graph_read::numbers::take_numbers;
+use graph_fill::numbers::take_numbers;
 use wire::lent::zero_rest_u8;
 use wire::lent::zero_rest_u32;
 use wire::letters::put_letters;
@@ -11,7 +11,7 @@ ghost use Prim.Native.Nat.{_+_, _*_, _≤_};
 ghost use lib.ListN.{length, take, drop};
 ghost use Rattle.wire.specs.Lent.{laid};
 ghost use Rattle.wire.specs.Sizes.{mostRead, mostAnchors, fullLetters, fullAnchors};
-ghost use Rattle.graph_read.specs.Filling.{numbersIn};
+ghost use Rattle.graph_fill.specs.Filling.{numbersIn};
 ghost use Rattle.anchors.specs.Anchors.{perAnchor};
 
 // The r letters of the read, from the place `start` on.

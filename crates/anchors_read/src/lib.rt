@@ -4,12 +4,11 @@ mod fills; // fills.rt: the read's letters and the anchors' numbers
 use anchors_check::AnchorSections;
 use anchors_check::CheckedBoth;
 use anchors_check::check_anchors;
+use anchors_parts::rooms::roomy;
 use wire::refusals::SMALL_BUFFER;
-use wire::sizes::FULL_ANCHORS;
-use wire::sizes::FULL_LETTERS;
 ghost use mathlib.Core.Path.{_≡_};
 ghost use Rattle.wire.specs.Found.{refused};
-ghost use Rattle.anchors_read.specs.Answer.{answerOf, countsAnswer, Answered, roomFor};
+ghost use Rattle.anchors_read.specs.Answer.{answerOf, countsAnswer, Answered};
 
 // Number, file and place; then the counts of an accepted anchor file: letters of the read, and anchors.
 pub struct AnchorsAnswer {
@@ -44,16 +43,6 @@ fn acceptance(a: AnchorSections) -> AnchorsAnswer
         letters: a.r,
         anchors: a.n,
     }
-}
-
-// Whether each buffer has full size, by its length.
-fn roomy(letters: usize, anchors: usize) -> bool
-    ensures { λ r. ⌜ r ≡ roomFor letters anchors ⌝ }
-{
-    if letters < FULL_LETTERS {
-        return false;
-    }
-    FULL_ANCHORS <= anchors
 }
 
 // Reads the anchor file over the graph file into the buffers, where each has full size and both files are accepted; a refusal writes nothing.

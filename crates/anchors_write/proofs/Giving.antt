@@ -10,8 +10,8 @@ use Rattle.graph_content.proofs.Givens.{then, twice, letters-given}
 use Rattle.anchors.specs.Anchors.{Anchor}
 use Rattle.anchors.specs.AnchorRules.{noAnchor}
 use Rattle.anchors.specs.AnchorEntries.{AnchorsGiven, anchorIn, eachGiven, anchorsGiven}
-use Rattle.anchors_write.specs.InPlaces.{anchorsIn, setIn}
-use Rattle.anchors_write.specs.FirstFaults.{eachFault, contentFault}
+use Rattle.anchors_content.specs.InPlaces.{anchorsIn, setIn}
+use Rattle.anchors_content.specs.FirstFaults.{eachFault, contentFault}
 
 each-given : (g : Graph) (read : List ℕ) (left i : ℕ) (last : Anchor) (numbers : List ℕ)
     → eachGiven g read left i last numbers ≡ refuse (eachFault g read left i last numbers) 0 (good (anchorsIn left i numbers))

@@ -1,5 +1,2 @@
 pub mod Giving
-pub mod EachSteps
-pub mod ContentSteps
-pub mod Sizing
 pub mod Promised

@@ -15,10 +15,10 @@ use Rattle.graph_parts.proofs.Passing.{refuse-none, refuse-some}
 use Rattle.anchors.specs.Anchors.{AnchorSet}
 use Rattle.anchors.specs.AnchorBytes.{encodeAnchors}
 use Rattle.anchors.specs.AnchorEntries.{AnchorsGiven, anchorsGiven, roomyAnchors, anchorSizeReply, writeAnchorsReply}
-use Rattle.anchors_check.specs.LabelTables.{contentOf, Accepts}
+use Rattle.anchors_parts.specs.LabelTables.{contentOf, Accepts}
 use Rattle.anchors_write.specs.declared.WrittenAnchors.{WrittenAnchors}
-use Rattle.anchors_write.specs.InPlaces.{setIn}
-use Rattle.anchors_write.specs.FirstFaults.{contentFault}
+use Rattle.anchors_content.specs.InPlaces.{setIn}
+use Rattle.anchors_content.specs.FirstFaults.{contentFault}
 use Rattle.anchors_write.specs.Answer.{refusedWith, Written}
 use Rattle.anchors_write.proofs.Giving.{content-given}
 

@@ -2,19 +2,12 @@
 use Prim.Native.Nat.{ℕ}
 use mathlib.Core.Path.{_≡_, sym, _∙_}
 use mathlib.Core.List.{List}
-use mathlib.Core.Bool.{Bool, _&&_}
 use lib.ListN.{length}
-use lib.Dec.{leb}
-use Rattle.wire.specs.Sizes.{fullLetters, fullAnchors}
 use Rattle.wire.specs.Found.{Reply, accepted, refused}
 use Rattle.anchors.specs.Anchors.{AnchorSet}
 use Rattle.anchors.specs.AnchorBytes.{encodeAnchors}
 use Rattle.anchors.specs.AnchorEntries.{AnchorsGiven, writeAnchorsReply, writeAnchorsAfter}
 use Rattle.anchors_write.specs.declared.WrittenAnchors.{WrittenAnchors}
-
--- each buffer has full size, by the buffers' lengths, as `roomyAnchors` says it of the buffers
-abbrev pub fullSizes : ℕ → ℕ → Bool
-fullSizes letters anchors = _&&_ (leb fullLetters letters) (leb fullAnchors anchors)
 
 -- a refusal
 abbrev pub refusedWith : ℕ → ℕ → ℕ → WrittenAnchors

@@ -1,7 +1,8 @@
 // The writer of an anchor file: it takes content and the graph file's bytes, checks both as the reader would, and writes the content's bytes.
-mod content; // content.rt: the first fault of the content
-mod bytes; // bytes.rt: how many bytes the encoding takes, and writing them
 
+use anchors_content::bytes;
+use anchors_content::content;
+use anchors_parts::rooms::roomy;
 use graph_check::Checked;
 use graph_check::check_graph;
 use wire::refusals::ANCHOR_FILE;
@@ -9,11 +10,9 @@ use wire::refusals::GRAPH_FILE;
 use wire::refusals::OUT_OF_RANGE;
 use wire::refusals::SHORT_OUTPUT;
 use wire::refusals::SMALL_BUFFER;
-use wire::sizes::FULL_ANCHORS;
-use wire::sizes::FULL_LETTERS;
 use wire::sizes::MOST_FILE_BYTES;
 ghost use mathlib.Core.Path.{_≡_};
-ghost use Rattle.anchors_write.specs.Answer.{fullSizes, refusedWith, Written};
+ghost use Rattle.anchors_write.specs.Answer.{refusedWith, Written};
 
 // The refusal's number, file and place, 0 in all three for an acceptance, and how many bytes were written.
 pub struct WrittenAnchors {
@@ -21,16 +20,6 @@ pub struct WrittenAnchors {
     pub file: u32,
     pub place: u32,
     pub bytes: u32,
-}
-
-// Whether each buffer has full size, by the buffers' lengths.
-fn full_buffers(letters: usize, anchors: usize) -> bool
-    ensures { λ r. ⌜ r ≡ fullSizes letters anchors ⌝ }
-{
-    if letters < FULL_LETTERS {
-        return false;
-    }
-    FULL_ANCHORS <= anchors
 }
 
 // A refusal's answer.
@@ -58,7 +47,7 @@ pub fn write_anchors(
         (record { r = r; n = n; buffers = record { letters = now (letters .entry); anchors = now (anchors .entry) } })
         (now (graph .entry)) (now (out .entry)) (now (out .exit)) w ⌝ }
 {
-    if !full_buffers(letters.len(), anchors.len()) {
+    if !roomy(letters.len(), anchors.len()) {
         return refusal(SMALL_BUFFER, 0, 0);
     }
     let found = check_graph(graph);

@@ -5,5 +5,6 @@ pub mod SweepLaws
 pub mod NamedLaws
 pub mod StepsThere
 pub mod Results
+pub mod Demands
 pub mod WorkedSteps
 pub mod WorkedChains

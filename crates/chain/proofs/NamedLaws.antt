@@ -29,7 +29,7 @@ module _ (g : Graph) (anchors : List Anchor) (S : List ℕ) where
       let e : h ≡ i = lowest-one h i j l k in
       ap (λ (t : List ℕ). t ++ (j ∷ [])) (back-one (subst (λ (x : ℕ). Back g anchors S x js) e b) c)
 
-  top-one : (i j : ℕ) → Top g anchors S i → Top g anchors S j → i ≡ j
+  top-one : (i j : ℕ) → Top (length anchors) S i → Top (length anchors) S j → i ≡ j
   top-one i j p q =
       let e : entry i S ≡ entry j S = le-antisymm (q .greatest i (p .within)) (p .greatest j (q .within)) in
       le-antisymm (p .lowest j (q .within) (sym e)) (q .lowest i (p .within) e)

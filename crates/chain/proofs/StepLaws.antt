@@ -9,7 +9,10 @@ use native.Mathlib.Omega.{arith}
 use lib.ListN.{length}
 use Rattle.rounds.specs.Rounds.{Within}
 use Rattle.graph.specs.Content.{Graph}
-use Rattle.anchors.specs.Anchors.{Anchor, y, d}
+use Rattle.anchors.specs.Anchors.{Anchor, AnchorSet, y, d}
+use Rattle.anchors.specs.AnchorRules.{noAnchor}
+use Rattle.anchors.specs.GoodAnchors.{GoodAnchor, GoodAnchors}
+use Rattle.anchors.proofs.ViewLaws.{all-at}
 use Rattle.cover.specs.Walks.{Goes}
 use Rattle.cover.specs.Cells.{IsClosed}
 use Rattle.cover.specs.CoverDistance.{IsCover}
@@ -19,6 +22,13 @@ use Rattle.chain.specs.Steps.{anchorAt, Jump, ahead, round, across, Step
 pub record Sound (anchors : List Anchor) : Type 0 where
   pub heavy : (j : ℕ) → Within (length anchors) j → 1 ≤ anchorAt anchors j .weight
   pub spans : (j : ℕ) → Within (length anchors) j → 1 ≤ anchorAt anchors j .len
+
+-- the weights and lengths of good anchors are 1 or more
+pub good-sound : {g : Graph} {a : AnchorSet} → GoodAnchors g a → Sound (a .anchors)
+good-sound {g} {a} A = record { heavy = λ j w. at j w .someWeight; spans = λ j w. at j w .someLength }
+  where
+    at : (j : ℕ) → Within (length (a .anchors)) j → GoodAnchor g (a .read) (anchorAt (a .anchors) j)
+    at j w = all-at (GoodAnchor g (a .read)) (a .anchors) (j - 1) noAnchor (A .each) (omega arith)
 
 closed-one : (g : Graph) (v s t : ℕ) → IsClosed g v s → IsClosed g v t → s ≡ t
 closed-one g v s t p q = go (p .attained) (q .attained)

@@ -35,7 +35,7 @@ use Rattle.cover.proofs.TablesThere.{reach-cells, distance-cells}
 use Rattle.cover.proofs.WorkedGood.{g1-good, g2-good}
 use Rattle.cover.proofs.WorkedTables.{g1-tables, g2-tables, g2-cover}
 use Rattle.chain.specs.Sweep.{IsSteps, weights, sweepRound}
-use Rattle.chain.specs.WorkedAnchors.{acttca, acttcaResult, ccgcc, ccgccResult, acc, accResult, alone, aloneResult, looped, loopedResult, aaa, Works, StarredChains}
+use Rattle.chain.specs.WorkedAnchors.{acttca, acttcaResult, ccgcc, ccgccResult, acc, accResult, alone, aloneResult, looped, loopedResult, aaa, Works}
 use Rattle.chain.proofs.WorkedSteps.{each, eachTwo, faultless, faultless-rises, step-across, step-round, Known, is-known, gapsIn, complete, level, known-steps, no-steps, gives, goesBack, inOrder, highest, works}
 
 -- a cover distance, by the row computed from the tables
@@ -211,10 +211,6 @@ looped-rounds = run-shows (sweepRound (aaa .anchors) (gapsIn loopedSteps)) (list
 pub looped-works : Works looped aaa loopedResult
 unfolding loopedSteps gapsIn each gives goesBack inOrder highest
 looped-works = works looped-good looped-aaa looped-steps looped-rounds 3 (2 ∷ 1 ∷ []) (within (omega arith) (omega arith)) refl refl
-
--- THE STARRED CASES of chains
-pub starred-chains : StarredChains
-starred-chains = record { roundTwo = ccgcc-works; farCover = g2-cover; tooFar = acc-works; noEdge = alone-works; ownEdge = looped-works }
 
 -- ---- G1 with the anchors of its listing
 

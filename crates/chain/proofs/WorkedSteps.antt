@@ -29,7 +29,7 @@ use Rattle.chain.specs.Steps.{anchorAt, Before, round, across, Step}
 use Rattle.chain.specs.Named.{Gives, LowestGiving, Back, stop, go, Top, some}
 use Rattle.chain.specs.Sweep.{IsSteps, weights, sweepRound, rounds}
 use Rattle.chain.specs.WorkedAnchors.{Works}
-use Rattle.chain.proofs.StepLaws.{Sound}
+use Rattle.chain.proofs.StepLaws.{good-sound, Sound}
 use Rattle.chain.proofs.SweepLaws.{link, swept-well}
 use Rattle.chain.proofs.StepsThere.{step-made}
 
@@ -84,13 +84,6 @@ module _ (g : Graph) (read : List ℕ) where
       after : (more : List Anchor) → Next KeyBelow (noAnchor ∷ more) → Next KeyBelow more
       after [] r = tt
       after (a ∷ more) r = r .1
-
--- the weights and lengths of good anchors are 1 or more
-pub good-sound : {g : Graph} {a : AnchorSet} → GoodAnchors g a → Sound (a .anchors)
-good-sound {g} {a} A = record { heavy = λ j w. at j w .someWeight; spans = λ j w. at j w .someLength }
-  where
-    at : (j : ℕ) → Within (length (a .anchors)) j → GoodAnchor g (a .read) (anchorAt (a .anchors) j)
-    at j w = all-at (GoodAnchor g (a .read)) (a .anchors) (j - 1) noAnchor (A .each) (omega arith)
 
 -- ---- steps of the two kinds that the cases have
 
@@ -209,9 +202,9 @@ unfoldable pub highest : List Anchor → List ℕ → ℕ → Bool
 highest anchors S j =
     each (λ i. _||_ (ltb (entry i S) (entry j S)) (_&&_ (eqb (entry i S) (entry j S)) (leb j i))) (length anchors)
 
-pub highest-top : (g : Graph) (anchors : List Anchor) (S : List ℕ) (j : ℕ) → Within (length anchors) j → highest anchors S j ≡ true → Top g anchors S j
+pub highest-top : (anchors : List Anchor) (S : List ℕ) (j : ℕ) → Within (length anchors) j → highest anchors S j ≡ true → Top (length anchors) S j
 unfolding highest
-highest-top g anchors S j w t = record { within = w; greatest = λ i wi. on i wi .0; lowest = λ i wi. on i wi .1 }
+highest-top anchors S j w t = record { within = w; greatest = λ i wi. on i wi .0; lowest = λ i wi. on i wi .1 }
   where
     on : (i : ℕ) → Within (length anchors) i → (entry i S ≤ entry j S) × (entry i S ≡ entry j S → j ≤ i)
     on i wi = by (either _ _ (each-at _ (length anchors) t i wi))
@@ -281,7 +274,7 @@ works {g} {a} {f} {count} {S} G A F r j more w t b =
         result = record {
           size = x .size;
           best = x .best;
-          returned = some (highest-top g (a .anchors) S j w t) (back-is g (a .anchors) (good-sound A) any f F S j more w b);
+          returned = some (highest-top (a .anchors) S j w t) (back-is g (a .anchors) (good-sound A) any f F S j more w b);
         };
         swept = swept;
       };

@@ -49,9 +49,13 @@ pub record ChainBuffers : Type 0 where
   pub scores : List ℕ
   pub chain : List ℕ
 
--- each has full size: "scores and chain 2,048"
+-- full size, by the lengths of the buffers: "scores and chain 2,048"
+abbrev pub roomForChain : ℕ → ℕ → Bool
+roomForChain scores chain = _&&_ (leb fullScores scores) (leb fullChain chain)
+
+-- each has full size
 unfoldable pub roomyChain : ChainBuffers → Bool
-roomyChain b = _&&_ (leb fullScores (length (b .scores))) (leb fullChain (length (b .chain)))
+roomyChain b = roomForChain (length (b .scores)) (length (b .chain))
 
 -- 13, then the graph file, then the anchor file
 unfoldable pub chainReply : List ℕ → List ℕ → ChainBuffers → Reply Both

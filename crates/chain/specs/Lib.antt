@@ -4,4 +4,5 @@ pub mod Chains
 pub mod Named
 pub mod Sweep
 pub mod ChainEntries
+pub mod Demands
 pub mod WorkedAnchors

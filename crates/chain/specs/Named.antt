@@ -10,6 +10,12 @@ use Rattle.graph.specs.Content.{Graph}
 use Rattle.anchors.specs.Anchors.{Anchor}
 use Rattle.chain.specs.Steps.{anchorAt, Step}
 
+-- "the lowest-numbered anchor of greatest score", of anchors 1 to n
+pub record Top (n : ℕ) (S : List ℕ) (j : ℕ) : Type 0 where
+  pub within : Within n j
+  pub greatest : (i : ℕ) → Within n i → entry i S ≤ entry j S
+  pub lowest : (i : ℕ) → Within n i → entry i S ≡ entry j S → j ≤ i
+
 module _ (g : Graph) (anchors : List Anchor) (S : List ℕ) where
   -- anchor i gives the score of anchor j: it comes before it, and its score plus j's weight less the gaps is j's score
   pub record Gives (i j : ℕ) : Type 0 where
@@ -29,13 +35,7 @@ module _ (g : Graph) (anchors : List Anchor) (S : List ℕ) where
     stop : {j : ℕ} → entry j S ≡ anchorAt anchors j .weight → Back j (j ∷ [])
     go : {i j : ℕ} {js : List ℕ} → entry j S ≢ anchorAt anchors j .weight → LowestGiving i j → Back i js → Back j (js ++ (j ∷ []))
 
-  -- "the lowest-numbered anchor of greatest score"
-  pub record Top (j : ℕ) : Type 0 where
-    pub within : Within (length anchors) j
-    pub greatest : (i : ℕ) → Within (length anchors) i → entry i S ≤ entry j S
-    pub lowest : (i : ℕ) → Within (length anchors) i → entry i S ≡ entry j S → j ≤ i
-
   -- "The chain returned ends at the lowest-numbered anchor of greatest score. .. With no anchors the chain is empty, and the score and rounds are 0."
   pub data Returned : List ℕ → ℕ → Type 0 where
     empty : length anchors ≡ 0 → Returned [] 0
-    some : {j : ℕ} {js : List ℕ} → Top j → Back j js → Returned js (entry j S)
+    some : {j : ℕ} {js : List ℕ} → Top (length anchors) S j → Back j js → Returned js (entry j S)

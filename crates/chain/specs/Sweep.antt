@@ -1,8 +1,7 @@
 -- The sweep: "scores start at the weights; a round takes anchors in rising number, in place, each score becoming the greatest of itself and all candidates.
--- The quiet round counts and ends it." And the order of the plain pass.
-use Prim.Native.Nat.{ℕ, suc, _-_, _<_, _≤_}
+-- The quiet round counts and ends it."
+use Prim.Native.Nat.{ℕ, suc, _-_, _≤_}
 use mathlib.Core.Path.{_≡_}
-use mathlib.Core.Logic.{_⊎_}
 use mathlib.Core.List.{List, [], map}
 use native.Mathlib.Decide.{decLe}
 use lib.ListN.{length}
@@ -37,8 +36,3 @@ pub data Swept (g : Graph) (anchors : List Anchor) : ℕ → List ℕ → Type 0
   none : length anchors ≡ 0 → Swept g anchors 0 []
   rounds : {count : ℕ} {S : List ℕ} (f : ℕ → ℕ → ℕ) → 1 ≤ length anchors → IsSteps g anchors f
       → Rounds (sweepRound anchors f) (weights anchors) count S → Swept g anchors count S
-
--- "The plain pass takes pairs in read order": anchor i stands before anchor j there, by c, and by number where c is the same
-abbrev pub ReadBefore : List Anchor → ℕ → ℕ → Type 0
-ReadBefore anchors i j =
-    (anchorAt anchors i .c < anchorAt anchors j .c) ⊎ ((anchorAt anchors i .c ≡ anchorAt anchors j .c) × (i < j))

@@ -5,7 +5,6 @@ use Rattle.graph.specs.Content.{Graph}
 use Rattle.graph.specs.Good.{GoodGraph}
 use Rattle.anchors.specs.Anchors.{Anchor, AnchorSet}
 use Rattle.anchors.specs.GoodAnchors.{GoodAnchors}
-use Rattle.cover.specs.CoverDistance.{IsCover}
 use Rattle.cover.specs.Worked.{g2}
 use Rattle.chain.specs.ChainEntries.{Result, IsSweep}
 
@@ -62,14 +61,3 @@ pub record Works (g : Graph) (a : AnchorSet) (r : Result) : Type 0 where
   pub graph : GoodGraph g
   pub anchors : GoodAnchors g a
   pub sweep : IsSweep g (a .anchors) r
-
--- the starred cases of chains
-pub record StarredChains : Type 0 where
-  -- "* G2, read CCGCC, .."
-  pub roundTwo : Works g2 ccgcc ccgccResult
-  -- "* G2, read ACC, ..: cover distance 4, score 2, chain 2."
-  pub farCover : IsCover g2 1 2 4
-  pub tooFar : Works g2 acc accResult
-  -- "* One vertex A, read AAA, ..; with an edge to itself, .."
-  pub noEdge : Works alone aaa aloneResult
-  pub ownEdge : Works looped aaa loopedResult

@@ -1,3 +1,2 @@
 -- The definitions of the listing program.
 pub mod Files
-pub mod Numbers

@@ -35,18 +35,18 @@ use placing::ChainAnswer;
 use placing::plain;
 use placing::sweep;
 use tables::TablesAnswer;
-use tables::cell_zeros;
-use tables::letter_zeros;
-use tables::number_zeros;
-use tables::path_zeros;
-use tables::vertex_zeros;
+use tables_make::make::cell_zeros;
+use tables_make::make::letter_zeros;
+use tables_make::make::number_zeros;
+use tables_make::make::path_zeros;
+use tables_make::make::vertex_zeros;
 ghost use mathlib.Core.Path.{_≡_};
 ghost use mathlib.Core.Bool.{true};
 ghost use Rattle.graph.specs.Entries.{readReply};
 ghost use Rattle.graph_read.specs.Answer.{answerOf as graphAnswer};
 ghost use Rattle.anchors.specs.AnchorEntries.{readAnchorsReply};
 ghost use Rattle.anchors_read.specs.Answer.{answerOf as anchorsAnswer};
-ghost use Rattle.tables.specs.Made.{zeros};
+ghost use Rattle.tables_make.specs.Made.{zeros};
 ghost use Rattle.corpus.specs.Results.{freshGraph, freshAnchors, TablesDigest, SameButRounds, Audited, ChainDigest};
 
 // What the entry for tables answered, and the digest of the tables.
@@ -324,17 +324,27 @@ fn answer(kind: u8, graph: &[u8], file: &[u8]) {
     }
 }
 
+// A room for a file, one byte longer than any that is not too long.
+fn file_room() -> [u8; 65537] {
+    [0u8; 65537]
+}
+
+// Reads the anchor file of a record, and answers it.
+fn answer_after(kind: u8, graph: &[u8]) {
+    let mut file = file_room();
+    let n = read_file(&mut file);
+    answer(kind, graph, &file[..n]);
+}
+
 // Reads one record and answers it; false at the end.
 fn answer_next() -> bool {
     let kind = read_kind();
     if kind == 0 {
         return false;
     }
-    let mut graph = [0u8; 65537];
+    let mut graph = file_room();
     let n = read_file(&mut graph);
-    let mut file = [0u8; 65537];
-    let m = read_file(&mut file);
-    answer(kind, &graph[..n], &file[..m]);
+    answer_after(kind, &graph[..n]);
     true
 }
 

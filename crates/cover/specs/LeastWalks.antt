@@ -28,6 +28,7 @@ walkRule g = leastRule (levelLinks g (λ _. 1)) (λ e. L g (from g e))
 abbrev pub walkStart : Graph → (ℕ → ℕ) → List ℕ
 walkStart g w = tableOf (vertexCount g) (λ v i. home (w i ∷ []) 1 v)
 
+-- a round of least walks
 abbrev pub walkRound : Graph → List ℕ → List ℕ
 walkRound g = tableRound cellPlace (λ _. walkRule g) tableRow (vertexCount g)
 
@@ -40,6 +41,6 @@ pub record WalkTable (g : Graph) (w : ℕ → ℕ) (t : List ℕ) : Type 0 where
 unfoldable pub roundTrip : Graph → (ℕ → ℕ) → ℕ → ℕ → ℕ
 roundTrip g has w k = gather closer (edgeLinks g .into? w) (λ e. shift (has (from g e)) (L g (from g e))) 0 k
 
--- "the least length of a walk from v to v with at least one edge; 0 if there is none"
+-- the closed walk of w by the least walks from it, as `IsClosed` says it in document 01's words: 0 if there is none
 abbrev pub closedBy : Graph → (ℕ → ℕ) → ℕ → ℕ
 closedBy g has w = roundTrip g has w (edgeCount g) - 1

@@ -53,10 +53,13 @@ pub record TableBuffers : Type 0 where
   pub distance : List ℕ
   pub closed : List ℕ
 
--- each has full size: "reach and distance tables 16,384 each; closed walks 1,024"
+-- full size, by the lengths of the buffers: "reach and distance tables 16,384 each; closed walks 1,024"
+abbrev pub roomForTables : ℕ → ℕ → ℕ → Bool
+roomForTables reach distance closed = _&&_ (leb fullTable reach) (_&&_ (leb fullTable distance) (leb fullClosed closed))
+
+-- each has full size
 unfoldable pub roomyTables : TableBuffers → Bool
-roomyTables b =
-    _&&_ (leb fullTable (length (b .reach))) (_&&_ (leb fullTable (length (b .distance))) (leb fullClosed (length (b .closed))))
+roomyTables b = roomForTables (length (b .reach)) (length (b .distance)) (length (b .closed))
 
 -- 13, then the graph file
 unfoldable pub tablesReply : List ℕ → TableBuffers → Reply Parsed

@@ -40,9 +40,11 @@ edgeLinks g = record { m = edgeCount g; source = from g; Into = λ v e. to g e �
 abbrev pub reachColumn : Graph → List ℕ → Column
 reachColumn g p = greatestColumn (edgeLinks g) (λ v. own p v (length p))
 
+-- the table at which the rounds of reach start, a column for each path
 abbrev pub reachStart : Graph → List ℕ
 reachStart g = tableOf (vertexCount g) (λ v i. reachColumn g (pathAt g i) .starts v)
 
+-- a round of reach: every vertex in turn, in every column
 abbrev pub reachRound : Graph → List ℕ → List ℕ
 reachRound g = tableRound cellPlace (λ i. reachColumn g (pathAt g i) .rule) tableRow (vertexCount g)
 
@@ -70,9 +72,11 @@ distanceColumn g p r = leastColumn (levelLinks g r) (λ e. L g (from g e)) (λ v
 abbrev pub columnOver : Graph → List ℕ → ℕ → Column
 columnOver g reach i = distanceColumn g (pathAt g i) (λ v. cell cellPlace v i reach)
 
+-- the table at which the rounds of distance start, over the finished reach table
 abbrev pub distanceStart : Graph → List ℕ → List ℕ
 distanceStart g reach = tableOf (vertexCount g) (λ v i. columnOver g reach i .starts v)
 
+-- a round of distance
 abbrev pub distanceRound : Graph → List ℕ → List ℕ → List ℕ
 distanceRound g reach = tableRound cellPlace (λ i. columnOver g reach i .rule) tableRow (vertexCount g)
 

@@ -24,13 +24,17 @@ pub record Buffers : Type 0 where
   pub paths : List ℕ
   pub counts : List ℕ
 
--- each has full size: "letters 32,768; lengths 1,024; edges 8,192 numbers; paths 16,384 with 16 counts"
+-- full size, by the lengths of the buffers: "letters 32,768; lengths 1,024; edges 8,192 numbers; paths 16,384 with 16 counts"
+abbrev pub roomFor : ℕ → ℕ → ℕ → ℕ → ℕ → Bool
+roomFor letters lengths edges paths counts =
+    _&&_ (leb fullLetters letters)
+    (_&&_ (leb fullLengths lengths)
+    (_&&_ (leb fullEdges edges)
+    (_&&_ (leb fullPaths paths) (leb fullCounts counts))))
+
+-- each has full size
 unfoldable pub roomy : Buffers → Bool
-roomy b =
-    _&&_ (leb fullLetters (length (b .letters)))
-    (_&&_ (leb fullLengths (length (b .lengths)))
-    (_&&_ (leb fullEdges (length (b .edges)))
-    (_&&_ (leb fullPaths (length (b .paths))) (leb fullCounts (length (b .counts))))))
+roomy b = roomFor (length (b .letters)) (length (b .lengths)) (length (b .edges)) (length (b .paths)) (length (b .counts))
 
 -- "13; file too long; then byte by byte from the front"
 unfoldable pub readReply : List ℕ → Buffers → Reply Parsed

@@ -20,8 +20,9 @@ use Rattle.wire.proofs.NumberLaws.{number-within}
 use Rattle.graph.specs.Content.{Edge}
 use Rattle.graph.specs.Rules.{noEdge, edgeCountFault, allOn, coverFault}
 use Rattle.graph.specs.Reading.{Front, Parsed, labelsFrom, edgesFrom, pathsFrom, frontOf, restOf, graphOf}
-use Rattle.graph_parts.specs.Answers.{HasEdges, entries, edgesIn, countAt, answered, Marked}
-use Rattle.graph_parts.specs.Marks.{Marks, allMarked}
+use Rattle.graph_parts.specs.Answers.{countAt, answered}
+use Rattle.graph_paths.specs.PathAnswers.{HasEdges, entries, edgesIn, Marked}
+use Rattle.graph_paths.specs.Marks.{Marks, allMarked}
 use Rattle.graph_check.specs.Checked.{checkedOf, faultOf, HasHead}
 use Rattle.graph_check.specs.declared.Head.{Head}
 use Rattle.graph_check.specs.declared.Checked.{Checked}
@@ -29,7 +30,7 @@ use Rattle.graph_check.specs.declared.Checked.the-variants as checked
 use Rattle.graph.proofs.Accepting.{labels-read, edges-read, paths-read}
 use Rattle.graph.proofs.Parted.{FrontParts, front-parts}
 use Rattle.graph_parts.proofs.Passing.{refuse-none, refuse-some, count-on, count-value, answered-good}
-use Rattle.graph_parts.proofs.Marking.{marks-all}
+use Rattle.graph_paths.proofs.Marking.{marks-all}
 
 -- a fault that was found is the answer
 pub told : (s : List ℕ) {got : Number} {r : Checked} {k p : ℕ} → r ≡ faultOf got → got ≡ Fault k p → graphOf s ≡ fault k p → r ≡ checkedOf (graphOf s)

@@ -2,8 +2,8 @@
 use graph_parts::counts;
 use graph_parts::edges;
 use graph_parts::labels;
-use graph_parts::marks;
-use graph_parts::paths;
+use graph_paths::marks;
+use graph_paths::paths;
 use wire::numbers::Cursor;
 use wire::numbers::Number;
 use wire::refusals::LEFT_OVER;

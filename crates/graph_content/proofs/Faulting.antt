@@ -14,7 +14,7 @@ use Rattle.wire.specs.Refusals.{outOfRange, noVertex, notRising, notEdge}
 use Rattle.wire.specs.Sizes.{pathRoom}
 use Rattle.graph.specs.Content.{Edge}
 use Rattle.graph.specs.Rules.{lengthFault, letterFault, edgeFault, pathLengthFault, isVertex, isEdge, isStep, vertexFault}
-use Rattle.graph_parts.specs.Steps.{riseFault}
+use Rattle.graph_rules.specs.Rise.{riseFault}
 use Rattle.graph.specs.Entries.{edgeIn}
 use Rattle.graph_content.specs.Faults.{first, lettersFault, labelsFault, edgesFault, verticesFault, pathsFault}
 use Rattle.graph_content.proofs.Encoded.{left-more, left-none}

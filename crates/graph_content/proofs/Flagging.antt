@@ -13,7 +13,7 @@ use lib.Dec.{eqb}
 use borrow.Author.Tests.{eq-eqb, ne-eqb}
 use Rattle.wire.specs.Sizes.{pathRoom}
 use Rattle.graph.specs.Rules.{isOn, isOnAny, allOn}
-use Rattle.graph_parts.specs.Marks.{allMarked}
+use Rattle.graph_paths.specs.Marks.{allMarked}
 use Rattle.graph_content.specs.Used.{numbersIn, pathsIn}
 use Rattle.graph_content.specs.Flags.{marked, Flagged, Vertices, Inside}
 use Rattle.graph_content.proofs.Encoded.{left-more, left-none, length-numbers, numbers-at}

@@ -10,7 +10,7 @@ use Rattle.wire.specs.Cases.{pick}
 use Rattle.wire.specs.Refusals.{notEdge}
 use Rattle.graph.specs.Content.{Edge}
 use Rattle.graph.specs.Rules.{edgeBelow, isEdge, isStep, vertexFault}
-use Rattle.graph_parts.specs.Steps.{riseFault}
+use Rattle.graph_rules.specs.Rise.{riseFault}
 use Rattle.graph.specs.Entries.{edgeIn}
 use Rattle.graph_content.specs.Used.{edgesIn}
 use Rattle.graph_content.specs.Faults.{first, verticesFault, Rising}

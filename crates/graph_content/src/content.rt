@@ -1,11 +1,11 @@
 // The first fault of the labels, the edges and the paths, in the reader's order, 0 for none.
 use crate::wide;
-use graph_parts::rules::edge_below;
-use graph_parts::rules::edge_fault;
-use graph_parts::rules::length_fault;
-use graph_parts::rules::letter_fault;
-use graph_parts::rules::range_fault;
-use graph_parts::rules::rise_fault;
+use graph_rules::rules::edge_below;
+use graph_rules::rules::edge_fault;
+use graph_rules::rules::length_fault;
+use graph_rules::rules::letter_fault;
+use graph_rules::rules::range_fault;
+use graph_rules::rules::rise_fault;
 use wire::refusals::NOT_EDGE;
 use wire::sizes::PATH_ROOM;
 ghost use mathlib.Core.Path.{_≡_};

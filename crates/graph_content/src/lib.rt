@@ -1,6 +1,6 @@
 // The content that a writer of a graph file is given: its first fault, in the reader's order.
 pub mod content; // content.rt: the first fault of the labels, the edges and the paths
-mod cover; // cover.rt: every vertex is on a path
+mod covered; // covered.rt: every vertex is on a path
 
 use wire::sizes::MOST_EDGES;
 use wire::sizes::MOST_PATHS;
@@ -32,7 +32,7 @@ pub fn content_fault(
     ensures { λ r. ⌜ r ≡ contentFault (givenOf n m k
         (now (letters .entry)) (now (lengths .entry)) (now (edges .entry)) (now (paths .entry)) (now (counts .entry))) ⌝ }
 {
-    let vertices = graph_parts::rules::range_fault(1, MOST_VERTICES, n);
+    let vertices = graph_rules::rules::range_fault(1, MOST_VERTICES, n);
     if vertices != 0 {
         return vertices;
     }
@@ -40,7 +40,7 @@ pub fn content_fault(
     if label != 0 {
         return label;
     }
-    let edgecount = graph_parts::rules::range_fault(0, MOST_EDGES, m);
+    let edgecount = graph_rules::rules::range_fault(0, MOST_EDGES, m);
     if edgecount != 0 {
         return edgecount;
     }
@@ -48,7 +48,7 @@ pub fn content_fault(
     if edge != 0 {
         return edge;
     }
-    let pathcount = graph_parts::rules::range_fault(1, MOST_PATHS, k);
+    let pathcount = graph_rules::rules::range_fault(1, MOST_PATHS, k);
     if pathcount != 0 {
         return pathcount;
     }
@@ -56,5 +56,5 @@ pub fn content_fault(
     if path != 0 {
         return path;
     }
-    cover::cover_fault(n, k as usize, paths, counts)
+    covered::cover_fault(n, k as usize, paths, counts)
 }

@@ -1,7 +1,3 @@
-pub mod Marking
 pub mod Passing
 pub mod Lettering
 pub mod Edging
-pub mod Searching
-pub mod Stepping
-pub mod Walking

@@ -1,6 +1,6 @@
 -- What the checks of a file's parts answer, in the form of a number that is read: how many there are with the next cursor, or the fault.
 use Prim.Native.Nat.{ℕ, _+_}
-use mathlib.Core.List.{List, [], flatten}
+use mathlib.Core.List.{List, flatten}
 use lib.ListN.{length}
 use lib.Dec.{eqb}
 use Rattle.wire.specs.Cases.{pick}
@@ -9,10 +9,7 @@ use Rattle.wire.specs.Numbers.{numberAt}
 use Rattle.wire.specs.declared.numbers.Cursor.{Cursor}
 use Rattle.wire.specs.declared.numbers.Number.{Number}
 use Rattle.wire.specs.declared.numbers.Number.the-variants.{Value, Fault}
-use Rattle.graph.specs.Content.{Edge}
-use Rattle.graph.specs.Rules.{rangeFault, noEdge}
-use Rattle.graph.specs.Reading.{edgesFrom}
-use Rattle.graph_parts.specs.Marks.{Marks}
+use Rattle.graph.specs.Rules.{rangeFault}
 
 -- a number with a range: "a count, length or weight out of range" is refused at "the number's first byte"
 abbrev pub ranged : ℕ → ℕ → ℕ → Number → Number
@@ -37,26 +34,3 @@ lettersAnswer x next (fault k place) = Fault k place
 abbrev pub labelsAnswer : ℕ → Found (Part (List (List ℕ))) → Number
 labelsAnswer sum (good p) = Value (sum + length (flatten (p .content))) (record { at = p .next })
 labelsAnswer sum (fault k place) = Fault k place
-
--- a part that was read
-abbrev pub IsGood : {A : Type 0} → Found A → Type 0
-IsGood (good a) = Unit {0}
-IsGood (fault k place) = ⊥
-
--- the m edges of a graph of n vertices at a place of the file s were read
-abbrev pub HasEdges : ℕ → ℕ → List ℕ → ℕ → Type 0
-HasEdges n m s at = IsGood (edgesFrom n m noEdge s at)
-
--- the entries of a part that was read
-abbrev pub entries : {A : Type 0} → Found (Part (List A)) → List A
-entries (good p) = p .content
-entries (fault k place) = []
-
--- these edges
-abbrev pub edgesIn : ℕ → ℕ → List ℕ → ℕ → List Edge
-edgesIn n m s at = entries (edgesFrom n m noEdge s at)
-
--- where the paths were read, the flags say which vertices are on them
-abbrev pub Marked : List ℕ → ℕ → Found (Part (List (List ℕ))) → Type 0
-Marked flags n (good p) = Marks flags n (p .content)
-Marked flags n (fault k place) = Unit {0}

@@ -1,5 +1,5 @@
 // A count with its range: read at a cursor, and refused at its first byte where it is out of range.
-use crate::rules;
+use graph_rules::rules;
 use wire::numbers::Cursor;
 use wire::numbers::Number;
 ghost use mathlib.Core.Path.{_≡_};

@@ -1,5 +1,5 @@
 // The labels: each its length and its letters.
-use crate::rules;
+use graph_rules::rules;
 use wire::numbers::Cursor;
 use wire::numbers::Number;
 use wire::refusals::BYTES_END;

@@ -23,8 +23,8 @@ use Rattle.graph.proofs.Kept.{both}
 use Rattle.graph.proofs.Parted.{parts}
 use Rattle.graph_read.specs.declared.GraphAnswer.{GraphAnswer}
 use Rattle.graph_read.specs.Answer.{answerOf, countsAnswer, Answered}
-use Rattle.graph_read.specs.Filling.{labelsIn, numbersIn, pathsIn}
-use Rattle.graph_read.proofs.Decoding.{labels-are, edges-are, paths-are, paths-fit}
+use Rattle.graph_fill.specs.Filling.{labelsIn, numbersIn, pathsIn}
+use Rattle.graph_fill.proofs.Decoding.{labels-are, edges-are, paths-are, paths-fit}
 
 -- ---- refusals
 

@@ -2,11 +2,8 @@
 use Prim.Native.Nat.{ℕ}
 use mathlib.Core.Path.{_≡_, sym, _∙_}
 use mathlib.Core.List.{List}
-use mathlib.Core.Bool.{Bool, _&&_}
 use lib.ListN.{length}
-use lib.Dec.{leb}
 use Rattle.wire.specs.Found.{Reply, accepted, refused}
-use Rattle.wire.specs.Sizes.{fullLetters, fullLengths, fullEdges, fullPaths, fullCounts}
 use Rattle.graph.specs.Content.{vertexCount, edgeCount, pathCount, lettersOf}
 use Rattle.graph.specs.Reading.{Parsed}
 use Rattle.graph.specs.Entries.{Buffers, readReply, readAfter}
@@ -39,11 +36,3 @@ pub record Answered (file : List ℕ) (b after : Buffers) (r : GraphAnswer) : Ty
 -- it admits one answer, and one content of every buffer
 pub one-answer : (file : List ℕ) (b x y : Buffers) (r q : GraphAnswer) → Answered file b x r → Answered file b y q → (r ≡ q) × (x ≡ y)
 one-answer file b x y r q h k = (h .answer ∙ sym (k .answer), h .buffers ∙ sym (k .buffers))
-
--- the room test on the buffers' lengths
-abbrev pub roomFor : ℕ → ℕ → ℕ → ℕ → ℕ → Bool
-roomFor letters lengths edges paths counts =
-    _&&_ (leb fullLetters letters)
-    (_&&_ (leb fullLengths lengths)
-    (_&&_ (leb fullEdges edges)
-    (_&&_ (leb fullPaths paths) (leb fullCounts counts))))

@@ -1,21 +1,16 @@
 // The reader of a graph file: it checks the file, and lays an accepted file's content into lent buffers.
-pub mod numbers; // numbers.rt: the numbers of an accepted section
-mod labels; // labels.rt: the labels' letters and lengths
-mod edges; // edges.rt: the edges' numbers
-mod paths; // paths.rt: the paths, each in its room, and their counts
 
 use graph_check::Checked;
 use graph_check::Sections;
+use graph_fill::edges;
+use graph_fill::labels;
+use graph_fill::paths;
+use graph_rules::rooms::roomy;
 use wire::refusals::GRAPH_FILE;
 use wire::refusals::SMALL_BUFFER;
-use wire::sizes::FULL_COUNTS;
-use wire::sizes::FULL_EDGES;
-use wire::sizes::FULL_LENGTHS;
-use wire::sizes::FULL_LETTERS;
-use wire::sizes::FULL_PATHS;
 ghost use mathlib.Core.Path.{_≡_};
 ghost use Rattle.wire.specs.Found.{refused};
-ghost use Rattle.graph_read.specs.Answer.{answerOf, countsAnswer, Answered, roomFor};
+ghost use Rattle.graph_read.specs.Answer.{answerOf, countsAnswer, Answered};
 
 // Number, file and place; then the counts of an accepted file: vertices, letters of all labels, edges, paths.
 pub struct GraphAnswer {
@@ -56,25 +51,6 @@ fn acceptance(s: Sections) -> GraphAnswer
         edges: s.m,
         paths: s.k,
     }
-}
-
-// Whether each buffer has full size, by its length.
-fn roomy(letters: usize, lengths: usize, edges: usize, paths: usize, counts: usize) -> bool
-    ensures { λ r. ⌜ r ≡ roomFor letters lengths edges paths counts ⌝ }
-{
-    if letters < FULL_LETTERS {
-        return false;
-    }
-    if lengths < FULL_LENGTHS {
-        return false;
-    }
-    if edges < FULL_EDGES {
-        return false;
-    }
-    if paths < FULL_PATHS {
-        return false;
-    }
-    FULL_COUNTS <= counts
 }
 
 // Reads the graph file into the buffers, where each has full size and the file is accepted; a refusal writes nothing.

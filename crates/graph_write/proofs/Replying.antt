@@ -16,18 +16,17 @@ use Rattle.wire.specs.Refusals.{outOfRange, smallBuffer, shortOutput, graphFile
 use Rattle.wire.specs.Sizes.{mostFileBytes, fullLetters, fullLengths, fullEdges, fullPaths, fullCounts}
 use Rattle.graph.specs.Content.{Graph}
 use Rattle.graph.specs.Encode.{encodeGraph}
-use Rattle.graph.specs.Entries.{Given, roomy, graphGiven, sizeReply, writeReply, writeAfter}
+use Rattle.graph.specs.Entries.{Given, roomFor, roomy, graphGiven, sizeReply, writeReply, writeAfter}
 use Rattle.graph_write.specs.declared.WrittenAnswer.{WrittenAnswer}
 use Rattle.graph_content.specs.Used.{Full, graphIn}
 use Rattle.graph_content.specs.Faults.{contentFault}
-use Rattle.graph_write.specs.Answer.{fullSizes, refusedWith, Written}
+use Rattle.graph_write.specs.Answer.{refusedWith, Written}
 use Rattle.graph_content.proofs.Givens.{graph-given}
 
 -- ---- the buffers
 
 -- each test that holds says its bound
-full-holds : (a b c d e : ℕ) → fullSizes a b c d e ≡ true → Full a b c d e
-unfolding fullSizes
+full-holds : (a b c d e : ℕ) → roomFor a b c d e ≡ true → Full a b c d e
 full-holds a b c d e h =
     let p = both (leb fullLetters a) _ h in
     let q = both (leb fullLengths b) _ (p .1) in
@@ -41,11 +40,11 @@ full-holds a b c d e h =
 
 abbrev sizes : Given → Bool
 sizes c =
-    fullSizes (length (c .buffers .letters)) (length (c .buffers .lengths)) (length (c .buffers .edges)) (length (c .buffers .paths))
+    roomFor (length (c .buffers .letters)) (length (c .buffers .lengths)) (length (c .buffers .edges)) (length (c .buffers .paths))
     (length (c .buffers .counts))
 
 roomy-sizes : (c : Given) → roomy (c .buffers) ≡ sizes c
-unfolding roomy fullSizes
+unfolding roomy
 roomy-sizes c = refl
 
 pub sizes-full : (c : Given) → sizes c ≡ true

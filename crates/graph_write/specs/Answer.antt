@@ -2,21 +2,12 @@
 use Prim.Native.Nat.{ℕ}
 use mathlib.Core.Path.{_≡_, sym, _∙_}
 use mathlib.Core.List.{List}
-use mathlib.Core.Bool.{Bool, _&&_}
 use lib.ListN.{length}
-use lib.Dec.{leb}
-use Rattle.wire.specs.Sizes.{fullLetters, fullLengths, fullEdges, fullPaths, fullCounts}
 use Rattle.wire.specs.Found.{Reply, accepted, refused}
 use Rattle.graph.specs.Content.{Graph}
 use Rattle.graph.specs.Encode.{encodeGraph}
 use Rattle.graph.specs.Entries.{Given, writeReply, writeAfter}
 use Rattle.graph_write.specs.declared.WrittenAnswer.{WrittenAnswer}
-
--- each buffer has full size, by the buffers' lengths, as `roomy` says it of the buffers
-unfoldable pub fullSizes : ℕ → ℕ → ℕ → ℕ → ℕ → Bool
-fullSizes letters lengths edges paths counts =
-    _&&_ (leb fullLetters letters)
-    (_&&_ (leb fullLengths lengths) (_&&_ (leb fullEdges edges) (_&&_ (leb fullPaths paths) (leb fullCounts counts))))
 
 -- a refusal
 abbrev pub refusedWith : ℕ → ℕ → ℕ → WrittenAnswer

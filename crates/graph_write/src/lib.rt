@@ -2,20 +2,16 @@
 use graph_bytes::graph_size;
 use graph_bytes::put_graph;
 use graph_content::content_fault;
+use graph_rules::rooms::roomy;
 use wire::refusals::GRAPH_FILE;
 use wire::refusals::OUT_OF_RANGE;
 use wire::refusals::SHORT_OUTPUT;
 use wire::refusals::SMALL_BUFFER;
-use wire::sizes::FULL_COUNTS;
-use wire::sizes::FULL_EDGES;
-use wire::sizes::FULL_LENGTHS;
-use wire::sizes::FULL_LETTERS;
-use wire::sizes::FULL_PATHS;
 use wire::sizes::MOST_FILE_BYTES;
 ghost use mathlib.Core.Path.{_≡_};
 ghost use lib.ListN.{length};
 ghost use Rattle.graph_content.specs.Used.{givenOf};
-ghost use Rattle.graph_write.specs.Answer.{fullSizes, refusedWith, Written};
+ghost use Rattle.graph_write.specs.Answer.{refusedWith, Written};
 
 // The refusal's number, file and place, 0 in all three for an acceptance, and how many bytes were written.
 pub struct WrittenAnswer {
@@ -23,25 +19,6 @@ pub struct WrittenAnswer {
     pub file: u32,
     pub place: u32,
     pub bytes: u32,
-}
-
-// Whether each buffer has full size, by the buffers' lengths.
-fn full_buffers(letters: usize, lengths: usize, edges: usize, paths: usize, counts: usize) -> bool
-    ensures { λ r. ⌜ r ≡ fullSizes letters lengths edges paths counts ⌝ }
-{
-    if letters < FULL_LETTERS {
-        return false;
-    }
-    if lengths < FULL_LENGTHS {
-        return false;
-    }
-    if edges < FULL_EDGES {
-        return false;
-    }
-    if paths < FULL_PATHS {
-        return false;
-    }
-    FULL_COUNTS <= counts
 }
 
 // A refusal's answer.
@@ -72,7 +49,7 @@ pub fn write_graph(
         (now (letters .entry)) (now (lengths .entry)) (now (edges .entry)) (now (paths .entry)) (now (counts .entry)))
         (length (now (out .entry))) (now (out .entry)) (now (out .exit)) r ⌝ }
 {
-    if !full_buffers(
+    if !roomy(
         letters.len(),
         lengths.len(),
         edges.len(),

@@ -1,45 +1,21 @@
 // Cases of the graph writer. Each line has the case's name, then the answer's number, file, place and bytes, then `untouched` where the output
 // is as it was, and the bytes written, in hexadecimal digits, where they are no more than 64. The content is that of graph G1 of document 01
 // with the change that the name says; the last two cases are a large graph, whose file is just short enough, and the same with one letter more.
+// A text holds the names, each ended by `|`: a case gives the number of its own, from 0.
 use graph_write::WrittenAnswer;
 use graph_write::write_graph;
+use telling::BYTE_BEFORE;
+use telling::say;
+use telling::say_bytes;
+use texts::part;
+use texts::say_filled;
 ghost use Prim.Native.Nat.{_≤_, _<_};
-
-// What every byte of the output is before a call.
-const BEFORE: u8 = 0xEE;
-
-// Writes text to standard output.
-fn say(text: &[u8]) {
-    io::write_all(1, text);
-}
-
-// Writes a space and a number.
-fn say_number(x: u32) {
-    say(b" ");
-    io::print_decimal(1, x as u64);
-}
-
-fn wide(b: u8) -> u64 {
-    b as u64
-}
-
-// Writes the first n bytes as hexadecimal digits.
-fn say_bytes(bytes: &[u8], n: usize) {
-    let mut i: usize = 0;
-    while i < bytes.len() {
-        if i < n {
-            say(b" ");
-            io::print_hex(1, wide(bytes[i]), 2);
-        }
-        i += 1;
-    }
-}
 
 // Whether every byte is as it was.
 fn untouched(bytes: &[u8]) -> bool {
     let mut i: usize = 0;
     while i < bytes.len() {
-        if bytes[i] != BEFORE {
+        if bytes[i] != BYTE_BEFORE {
             return false;
         }
         i += 1;
@@ -80,25 +56,39 @@ fn set_letters(letters: &mut [u8], from: &[u8]) {
     }
 }
 
-// Writes a case's line: the answer, and what stands in the output.
-fn tell(name: &[u8], answer: WrittenAnswer, out: &[u8]) {
-    say(name);
-    say(b":");
-    say_number(answer.number);
-    say_number(answer.file);
-    say_number(answer.place);
-    say_number(answer.bytes);
+// Writes the answer.
+fn say_answer(a: WrittenAnswer) {
+    say_filled(
+        b": # # # #",
+        &[
+            a.number as u64,
+            a.file as u64,
+            a.place as u64,
+            a.bytes as u64,
+        ],
+    );
+}
+
+// Writes what stands in the output, of which so many bytes were written.
+fn say_output(out: &[u8], bytes: u32) {
     if untouched(out) {
         say(b" untouched");
     }
-    if answer.bytes <= 64 {
-        say_bytes(out, answer.bytes as usize);
+    if bytes <= 64 {
+        say_bytes(out, bytes as usize);
     }
     say(b"\n");
 }
 
-// Runs a case with an output of 31 bytes, which is what G1 takes.
-fn run(
+// Writes a case's line: the answer, and what stands in the output.
+fn tell(name: &[u8], answer: WrittenAnswer, out: &[u8]) {
+    say(name);
+    say_answer(answer);
+    say_output(out, answer.bytes);
+}
+
+// Runs a case with a lent output.
+fn run_into(
     name: &[u8],
     n: u32,
     m: u32,
@@ -108,70 +98,118 @@ fn run(
     edges: &[u32],
     paths: &[u32],
     counts: &[u32],
-) {
-    let mut out = [BEFORE; 31];
-    let answer = write_graph(n, m, k, letters, lengths, edges, paths, counts, &mut out);
-    tell(name, answer, &out);
-}
-
-// Runs a case with another output.
-fn run_room(
-    name: &[u8],
-    letters: &[u8],
-    lengths: &[u32],
-    edges: &[u32],
-    paths: &[u32],
-    counts: &[u32],
     out: &mut [u8],
 ) {
-    let answer = write_graph(4, 4, 2, letters, lengths, edges, paths, counts, out);
+    let answer = write_graph(n, m, k, letters, lengths, edges, paths, counts, out);
     tell(name, answer, out);
 }
 
-// The content of G1.
-fn set_g1(
-    letters: &mut [u8],
-    lengths: &mut [u32],
-    edges: &mut [u32],
-    paths: &mut [u32],
-    counts: &mut [u32],
-) {
-    set_letters(letters, b"ACGTTCA");
-    set_numbers(lengths, 0, &[2, 1, 2, 2]);
-    set_numbers(edges, 0, &[1, 2, 1, 3, 2, 4, 3, 4]);
-    set_numbers(paths, 0, &[1, 2, 4]);
-    set_numbers(paths, 1024, &[1, 3, 4]);
-    set_numbers(counts, 0, &[3, 3]);
+// Sets the places from `start` on to numbers, and then the one at `at` to x where the list is this one.
+fn set_list(numbers: &mut [u32], start: usize, from: &[u32], same: bool, at: usize, x: u32)
+    requires { ⌜ start ≤ 1024 ⌝ }
+{
+    set_numbers(numbers, start, from);
+    if same {
+        set_number(numbers, at, x);
+    }
 }
 
-// A large graph: 1,024 vertices in a row, on each of 16 paths, with labels of 29 letters, but 30 for the first `longer`. Its file has
-// 65,333 bytes and one more for each label of 30 letters.
-fn set_large(
-    letters: &mut [u8],
-    lengths: &mut [u32],
-    edges: &mut [u32],
-    paths: &mut [u32],
-    counts: &mut [u32],
-    longer: u32,
-) {
-    set_every(letters);
-    let mut v: u32 = 0;
-    while v < 1024 {
-        set_number(lengths, v as usize, length_of(v, longer));
-        set_step(edges, v);
-        set_stop(paths, v);
-        v += 1;
+// The content of G1, with one change. In list 1, the lengths, 2, the edges, 3, the paths, or 4, the counts, the number at a place is x; in list 5 the
+// letter there is an `a`; any other list leaves all as it is.
+fn letters_of(list: u32, at: usize) -> [u8; 32768] {
+    let mut letters = [0u8; 32768];
+    set_letters(&mut letters, b"ACGTTCA");
+    if list == 5 {
+        set_letter(&mut letters, at, b'a');
     }
-    set_numbers(counts, 0, &[1024; 16]);
+    letters
 }
 
-// Every letter an A.
-fn set_every(letters: &mut [u8]) {
-    let mut i: usize = 0;
-    while i < letters.len() {
-        letters[i] = b'A';
-        i += 1;
-    }
+fn lengths_of(list: u32, at: usize, x: u32) -> [u32; 1024] {
+    let mut numbers = [0u32; 1024];
+    set_list(&mut numbers, 0, &[2, 1, 2, 2], list == 1, at, x);
+    numbers
+}
+
+fn edges_of(list: u32, at: usize, x: u32) -> [u32; 8192] {
+    let mut numbers = [0u32; 8192];
+    set_list(&mut numbers, 0, &[1, 2, 1, 3, 2, 4, 3, 4], list == 2, at, x);
+    numbers
+}
+
+fn paths_of(list: u32, at: usize, x: u32) -> [u32; 16384] {
+    let mut numbers = [0u32; 16384];
+    set_numbers(&mut numbers, 0, &[1, 2, 4]);
+    set_list(&mut numbers, 1024, &[1, 3, 4], list == 3, at, x);
+    numbers
+}
+
+fn counts_of(list: u32, at: usize, x: u32) -> [u32; 16] {
+    let mut numbers = [0u32; 16];
+    set_list(&mut numbers, 0, &[3, 3], list == 4, at, x);
+    numbers
+}
+
+// Runs G1 with a change into a lent output.
+fn run_changed(name: &[u8], n: u32, m: u32, k: u32, list: u32, at: usize, x: u32, out: &mut [u8]) {
+    let letters = letters_of(list, at);
+    let lengths = lengths_of(list, at, x);
+    let edges = edges_of(list, at, x);
+    let paths = paths_of(list, at, x);
+    let counts = counts_of(list, at, x);
+    run_into(
+        name,
+        n,
+        m,
+        k,
+        &letters,
+        &lengths,
+        &edges,
+        &paths,
+        &counts,
+        out,
+    );
+}
+
+// Runs it with other counts than 4, 4 and 2, or with a change, into 31 bytes, which is what G1 takes.
+fn run_counts(text: &[u8], name: usize, n: u32, m: u32, k: u32) {
+    let mut out = [BYTE_BEFORE; 31];
+    run_changed(part(text, name), n, m, k, 0, 0, 0, &mut out);
+}
+
+fn run_change(text: &[u8], name: usize, list: u32, at: usize, x: u32) {
+    let mut out = [BYTE_BEFORE; 31];
+    run_changed(part(text, name), 4, 4, 2, list, at, x, &mut out);
+}
+
+// Runs it with another output.
+fn run_rooms(text: &[u8]) {
+    let mut short = [BYTE_BEFORE; 30];
+    run_changed(part(text, 7), 4, 4, 2, 0, 0, 0, &mut short);
+    let mut roomy = [BYTE_BEFORE; 33];
+    run_changed(part(text, 8), 4, 4, 2, 0, 0, 0, &mut roomy);
+}
+
+// Runs it with 1,023 lengths.
+fn run_few(name: &[u8]) {
+    let letters = letters_of(0, 0);
+    let few = [2u32; 1023];
+    let edges = edges_of(0, 0, 0);
+    let paths = paths_of(0, 0, 0);
+    let counts = counts_of(0, 0, 0);
+    let mut out = [BYTE_BEFORE; 31];
+    run_into(
+        name,
+        4,
+        4,
+        2,
+        &letters,
+        &few,
+        &edges,
+        &paths,
+        &counts,
+        &mut out,
+    );
 }
 
 fn length_of(v: u32, longer: u32) -> u32 {
@@ -200,242 +238,84 @@ fn set_stop(paths: &mut [u32], v: u32)
     }
 }
 
-// The cases of the counts.
-fn run_counts(letters: &[u8], lengths: &[u32], edges: &[u32], paths: &[u32], counts: &[u32]) {
-    run(b"G1", 4, 4, 2, letters, lengths, edges, paths, counts);
-    run(b"n 0", 0, 4, 2, letters, lengths, edges, paths, counts);
-    run(
-        b"n 5000",
-        5000,
-        4,
-        2,
-        letters,
-        lengths,
-        edges,
-        paths,
-        counts,
-    );
-    run(
-        b"m 4294967295",
-        4,
-        4294967295,
-        2,
-        letters,
-        lengths,
-        edges,
-        paths,
-        counts,
-    );
-    run(b"K 17", 4, 4, 17, letters, lengths, edges, paths, counts);
-    run(b"K 1", 4, 4, 1, letters, lengths, edges, paths, counts);
-    run(b"m 3", 4, 3, 2, letters, lengths, edges, paths, counts);
-}
-
-// The cases of the output's room.
-fn run_rooms(letters: &[u8], lengths: &[u32], edges: &[u32], paths: &[u32], counts: &[u32]) {
-    let mut short = [BEFORE; 30];
-    run_room(
-        b"room 30",
-        letters,
-        lengths,
-        edges,
-        paths,
-        counts,
-        &mut short,
-    );
-    let mut roomy = [BEFORE; 33];
-    run_room(
-        b"room 33",
-        letters,
-        lengths,
-        edges,
-        paths,
-        counts,
-        &mut roomy,
-    );
-    let few = [2u32; 1023];
-    let mut out = [BEFORE; 31];
-    run_room(
-        b"1023 lengths",
-        letters,
-        &few,
-        edges,
-        paths,
-        counts,
-        &mut out,
-    );
-}
-
-// The letter a as the second letter.
-fn run_letter(
-    letters: &mut [u8],
-    lengths: &mut [u32],
-    edges: &mut [u32],
-    paths: &mut [u32],
-    counts: &mut [u32],
-) {
-    set_g1(letters, lengths, edges, paths, counts);
-    set_letter(letters, 1, b'a');
-    run(b"letter a", 4, 4, 2, letters, lengths, edges, paths, counts);
-}
-
-// A number changed: the lengths are list 1, the edges 2, the paths 3, the counts 4.
-fn change(
-    list: u32,
-    at: usize,
-    x: u32,
-    lengths: &mut [u32],
-    edges: &mut [u32],
-    paths: &mut [u32],
-    counts: &mut [u32],
-) {
-    if list == 1 {
-        return set_number(lengths, at, x);
+// The lengths, edges and paths of a large graph: 1,024 vertices in a row, on each of 16 paths, with labels of 29 letters, but 30 for the first `longer`.
+fn set_large(lengths: &mut [u32], edges: &mut [u32], paths: &mut [u32], longer: u32) {
+    let mut v: u32 = 0;
+    while v < 1024 {
+        set_number(lengths, v as usize, length_of(v, longer));
+        set_step(edges, v);
+        set_stop(paths, v);
+        v += 1;
     }
-    if list == 2 {
-        return set_number(edges, at, x);
-    }
-    if list == 3 {
-        return set_number(paths, at, x);
-    }
-    set_number(counts, at, x)
 }
 
-fn run_number(
-    name: &[u8],
-    list: u32,
-    at: usize,
-    x: u32,
-    letters: &mut [u8],
-    lengths: &mut [u32],
-    edges: &mut [u32],
-    paths: &mut [u32],
-    counts: &mut [u32],
-) {
-    set_g1(letters, lengths, edges, paths, counts);
-    change(list, at, x, lengths, edges, paths, counts);
-    run(name, 4, 4, 2, letters, lengths, edges, paths, counts);
+// Its letters, each an A, and room for more than 65,536 bytes.
+fn large_letters() -> [u8; 32768] {
+    [b'A'; 32768]
 }
 
-// Runs G1 with one number changed.
-fn run_change(name: &[u8], list: u32, at: usize, x: u32) {
-    let mut letters = [0u8; 32768];
+fn large_room() -> [u8; 65600] {
+    [BYTE_BEFORE; 65600]
+}
+
+// Runs the large graph, into an output with room to spare. Its file has 65,333 bytes and one more for
+// each label of 30 letters.
+fn run_large(name: &[u8], longer: u32) {
+    let letters = large_letters();
     let mut lengths = [0u32; 1024];
     let mut edges = [0u32; 8192];
     let mut paths = [0u32; 16384];
-    let mut counts = [0u32; 16];
-    run_number(
+    set_large(&mut lengths, &mut edges, &mut paths, longer);
+    let counts = [1024u32; 16];
+    let mut out = large_room();
+    run_into(
         name,
-        list,
-        at,
-        x,
-        &mut letters,
-        &mut lengths,
-        &mut edges,
-        &mut paths,
-        &mut counts,
-    );
-}
-
-// The cases of G1 itself.
-fn run_same(
-    letters: &mut [u8],
-    lengths: &mut [u32],
-    edges: &mut [u32],
-    paths: &mut [u32],
-    counts: &mut [u32],
-) {
-    set_g1(letters, lengths, edges, paths, counts);
-    run_counts(letters, lengths, edges, paths, counts);
-    run_rooms(letters, lengths, edges, paths, counts);
-}
-
-// The cases of the large graph, in an output with room for more than 65,536 bytes.
-fn run_large(
-    name: &[u8],
-    longer: u32,
-    letters: &mut [u8],
-    lengths: &mut [u32],
-    edges: &mut [u32],
-    paths: &mut [u32],
-    counts: &mut [u32],
-) {
-    set_large(letters, lengths, edges, paths, counts, longer);
-    let mut out = [BEFORE; 65600];
-    let answer = write_graph(
         1024,
         1023,
         16,
-        letters,
-        lengths,
-        edges,
-        paths,
-        counts,
+        &letters,
+        &lengths,
+        &edges,
+        &paths,
+        &counts,
         &mut out,
     );
-    tell(name, answer, &out);
 }
 
-fn run_first(
-    letters: &mut [u8],
-    lengths: &mut [u32],
-    edges: &mut [u32],
-    paths: &mut [u32],
-    counts: &mut [u32],
-) {
-    run_same(letters, lengths, edges, paths, counts);
-    run_letter(letters, lengths, edges, paths, counts);
+// The cases of the counts and of the rooms.
+fn same_cases(text: &[u8]) {
+    run_counts(text, 0, 4, 4, 2);
+    run_counts(text, 1, 0, 4, 2);
+    run_counts(text, 2, 5000, 4, 2);
+    run_counts(text, 3, 4, 4294967295, 2);
+    run_counts(text, 4, 4, 4, 17);
+    run_counts(text, 5, 4, 4, 1);
+    run_counts(text, 6, 4, 3, 2);
+    run_rooms(text);
+    run_few(part(text, 9));
 }
 
-fn run_last(
-    letters: &mut [u8],
-    lengths: &mut [u32],
-    edges: &mut [u32],
-    paths: &mut [u32],
-    counts: &mut [u32],
-) {
-    run_large(b"65536 bytes", 203, letters, lengths, edges, paths, counts);
-    run_large(b"65537 bytes", 204, letters, lengths, edges, paths, counts);
+// The cases of one letter or number changed.
+fn changed_cases(text: &[u8]) {
+    run_change(text, 10, 5, 1, 0);
+    run_change(text, 11, 1, 1, 4294967295);
+    run_change(text, 12, 2, 7, 5);
+    run_change(text, 13, 2, 3, 2);
+    run_change(text, 14, 3, 1025, 2);
+    run_change(text, 15, 3, 1025, 1);
+    run_change(text, 16, 4, 1, 5);
 }
 
-// The cases of G1, but those of one number changed.
-fn small_cases() {
-    let mut letters = [0u8; 32768];
-    let mut lengths = [0u32; 1024];
-    let mut edges = [0u32; 8192];
-    let mut paths = [0u32; 16384];
-    let mut counts = [0u32; 16];
-    run_first(
-        &mut letters,
-        &mut lengths,
-        &mut edges,
-        &mut paths,
-        &mut counts,
-    );
-}
-
-fn large_cases() {
-    let mut letters = [0u8; 32768];
-    let mut lengths = [0u32; 1024];
-    let mut edges = [0u32; 8192];
-    let mut paths = [0u32; 16384];
-    let mut counts = [0u32; 16];
-    run_last(
-        &mut letters,
-        &mut lengths,
-        &mut edges,
-        &mut paths,
-        &mut counts,
-    );
+fn all_cases(text: &[u8]) {
+    same_cases(text);
+    changed_cases(text);
+    run_large(part(text, 17), 203);
+    run_large(part(text, 18), 204);
 }
 
 fn main() {
-    small_cases();
-    run_change(b"lengths 2 4294967295", 1, 1, 4294967295);
-    run_change(b"edge 3-5", 2, 7, 5);
-    run_change(b"edge 1-2 twice", 2, 3, 2);
-    run_change(b"paths 1 2 4 and 1 2 4", 3, 1025, 2);
-    run_change(b"path 1 1 4", 3, 1025, 1);
-    run_change(b"path of 5", 4, 1, 5);
-    large_cases();
+    all_cases(
+        b"G1|n 0|n 5000|m 4294967295|K 17|K 1|m 3|room 30|room 33|1023 lengths|letter a|\
+          lengths 2 4294967295|edge 3-5|edge 1-2 twice|paths 1 2 4 and 1 2 4|path 1 1 4|path of 5|65536 bytes|65537 bytes|",
+    );
 }

@@ -11,9 +11,10 @@ use lib.ListN.{getD}
 use Rattle.rounds.specs.Rounds.{Within}
 use Rattle.rounds.specs.Table.{entry}
 use Rattle.rounds.proofs.Upto.{within}
-use Rattle.steps.specs.Pairs.{Ends, jumpIn, stepIn}
-use Rattle.steps.proofs.PairLaws.{jump-fits, step-late, step-none, step-some}
-use Rattle.named_chain.specs.Returning.{TopOf, Lowest, GivesIn}
+use Rattle.pair_step.specs.Pairs.{Ends, jumpIn, stepIn}
+use Rattle.pair_step.proofs.PairLaws.{jump-fits, step-late, step-none, step-some}
+use Rattle.chain.specs.Named.{Top}
+use Rattle.named_chain.specs.Returning.{Lowest, GivesIn}
 
 -- ---- the top anchor
 
@@ -22,15 +23,15 @@ module _ (S : List ℕ) where
   pub placed : (i : ℕ) → entry (i + 1) S ≡ getD S i 0
   placed i = let e : i + 1 - 1 ≡ i = omega arith in ap (λ (k : ℕ). getD S k 0) e
 
-  pub top-one : TopOf 1 S 1
+  pub top-one : Top 1 S 1
   top-one = record { within = within (le-refl 1) (le-refl 1); greatest = λ i w. same i w; lowest = λ i w e. w .low }
     where
       same : (i : ℕ) → Within 1 i → entry i S ≤ entry 1 S
       same i w = let e : i ≡ 1 = omega arith in rw e (le-refl (entry 1 S))
 
-  module _ (n b : ℕ) (t : TopOf n S b) where
+  module _ (n b : ℕ) (t : Top n S b) where
     -- a greater score is the new top
-    pub top-more : entry b S < entry (n + 1) S → TopOf (n + 1) S (n + 1)
+    pub top-more : entry b S < entry (n + 1) S → Top (n + 1) S (n + 1)
     top-more l = record { within = within (omega arith) (omega arith); greatest = λ i w. high i w (ℕ-discrete i (n + 1)); lowest = λ i w e. low i w e (ℕ-discrete i (n + 1)) }
       where
         high : (i : ℕ) → Within (n + 1) i → Dec (i ≡ n + 1) → entry i S ≤ entry (n + 1) S
@@ -42,7 +43,7 @@ module _ (S : List ℕ) where
         low i w q (no d) = absurd (omega (arith, t .greatest i (within (w .low) (omega arith))))
 
     -- another leaves it: of equal scores the lowest number counts
-    pub top-kept : entry (n + 1) S ≤ entry b S → TopOf (n + 1) S b
+    pub top-kept : entry (n + 1) S ≤ entry b S → Top (n + 1) S b
     top-kept l = record { within = within (t .within .low) (omega (arith, t .within .high)); greatest = λ i w. high i w (ℕ-discrete i (n + 1)); lowest = λ i w e. low i w e (ℕ-discrete i (n + 1)) }
       where
         high : (i : ℕ) → Within (n + 1) i → Dec (i ≡ n + 1) → entry i S ≤ entry b S

@@ -24,7 +24,7 @@ use Rattle.chain.specs.Named.{Gives, Back, stop, go, Top, empty, some}
 use Rattle.chain.proofs.NamedLaws.{given}
 use Rattle.steps.specs.Setting.{Setting, anchorOf, stepOf, Holds}
 use Rattle.steps.specs.Scores.{ScoresLow, Scored}
-use Rattle.named_chain.specs.Returning.{TopOf, Lowest, Origin, CameFrom, WayBack, ChainLaid}
+use Rattle.named_chain.specs.Returning.{Lowest, Origin, CameFrom, WayBack, ChainLaid}
 use Rattle.steps.proofs.HeldLaws.{held-within, within-held, held-number, held-order, step-told, best-low}
 use Rattle.steps.proofs.SettingLaws.{held-step}
 
@@ -208,7 +208,7 @@ module _ {s : Setting} {S : List ℕ} where
   pub chain-none : (old : List ℕ) → s .count ≡ 0 → ChainLaid s S old (laid fullChain (take 0 old) old) 0 0
   chain-none old e = record { js = []; returned = λ g a H. empty (omega (arith, H .anchorsAre)); long = refl; lies = refl }
 
-  pub chain-some : (back old out : List ℕ) (last at : ℕ) → length back ≡ s .count → at ≤ s .count → s .count ≤ fullChain → TopOf (s .count) S last
+  pub chain-some : (back old out : List ℕ) (last at : ℕ) → length back ≡ s .count → at ≤ s .count → s .count ≤ fullChain → Top (s .count) S last
       → WayBack s S last (drop at back) → out ≡ front (drop at back) old
       → ChainLaid s S old (laid fullChain (take (s .count - at) out) out) (s .count - at) (entry last S)
   chain-some back old out last at l h f t b e =
@@ -220,7 +220,7 @@ module _ {s : Setting} {S : List ℕ} where
         lies = laid-after fullChain (drop at back) out old (s .count - at) n (omega arith) e;
       }
     where
-      top : (g : Graph) (a : AnchorSet) → Holds s g a → Top g (a .anchors) S last
+      top : (g : Graph) (a : AnchorSet) → Holds s g a → Top (length (a .anchors)) S last
       top g a H = record {
         within = held-within H (t .within);
         greatest = λ i w. t .greatest i (within-held H w);

@@ -1,4 +1,4 @@
--- What the functions of the named chain say: the top anchor, the anchor that gives a score, the way back, and the chain as it is lent back.
+-- What the functions of the named chain say: the anchor that gives a score, the way back, and the chain as it is lent back.
 use Prim.Native.Nat.{ℕ, _+_, _-_, _≤_}
 use mathlib.Core.Path.{_≡_}
 use mathlib.Core.Logic.{_≢_, _⊎_}
@@ -12,14 +12,8 @@ use Rattle.graph.specs.Content.{Graph}
 use Rattle.anchors.specs.Anchors.{Anchor, AnchorSet}
 use Rattle.chain.specs.Steps.{anchorAt}
 use Rattle.chain.specs.Named.{LowestGiving, Back, Returned}
-use Rattle.steps.specs.Pairs.{Ends, stepFrom}
+use Rattle.pair_step.specs.Pairs.{Ends, stepFrom}
 use Rattle.steps.specs.Setting.{Setting, Holds}
-
--- "the lowest-numbered anchor of greatest score", of anchors 1 to n
-pub record TopOf (n : ℕ) (scores : List ℕ) (j : ℕ) : Type 0 where
-  pub within : Within n j
-  pub greatest : (i : ℕ) → Within n i → entry i scores ≤ entry j scores
-  pub lowest : (i : ℕ) → Within n i → entry i scores ≡ entry j scores → j ≤ i
 
 -- r is the lowest of 1 to n with P; 0 where none has it
 pub record Lowest (P : ℕ → Type 0) (n r : ℕ) : Type 0 where

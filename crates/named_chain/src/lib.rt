@@ -1,7 +1,7 @@
 // The chain that is returned: from the lowest-numbered anchor of greatest score back along the anchors that give the scores.
 use anchors::PER_ANCHOR;
+use pair_step::step::step;
 use steps::row::make_row;
-use steps::step::step;
 use wire::lent::zero_rest_u32;
 use wire::sizes::FULL_CHAIN;
 ghost use mathlib.Core.Path.{_≡_};
@@ -10,10 +10,11 @@ ghost use lib.ListN.{length, drop};
 ghost use Rattle.wire.specs.Sizes.{mostRead, mostWeight, fullChain};
 ghost use Rattle.wire.specs.Lent.{front};
 ghost use Rattle.rounds.specs.Rounds.{Within};
-ghost use Rattle.steps.specs.Pairs.{RowFits, EndsFit, ScoresFit};
+ghost use Rattle.pair_step.specs.Pairs.{RowFits, EndsFit, ScoresFit};
 ghost use Rattle.steps.specs.Setting.{settingOf};
 ghost use Rattle.steps.specs.Scores.{Scored};
-ghost use Rattle.named_chain.specs.Returning.{TopOf, Lowest, GivesIn, CameFrom, WayBack, ChainLaid};
+ghost use Rattle.chain.specs.Named.{Top};
+ghost use Rattle.named_chain.specs.Returning.{Lowest, GivesIn, CameFrom, WayBack, ChainLaid};
 
 // The length of the chain that is returned, and its score.
 pub struct Chained {
@@ -24,7 +25,7 @@ pub struct Chained {
 // "the lowest-numbered anchor of greatest score", of anchors 1 to n, of which there is at least one.
 pub fn top(scores: &[u32], n: usize) -> usize
     requires { ⌜ (1 ≤ n) × (n ≤ length (now scores)) ⌝ }
-    ensures { λ r. ⌜ TopOf n (now (scores .entry)) r ⌝ }
+    ensures { λ r. ⌜ Top n (now (scores .entry)) r ⌝ }
 {
     let mut best: usize = 0;
     let mut i: usize = 1;

@@ -17,10 +17,11 @@ use Rattle.anchors.specs.AnchorEntries.{Both, bothReply}
 use Rattle.chain.specs.ChainEntries.{Result, IsResult, IsSweep, IsPlain, ChainBuffers, roomyChain, chainReply, filledChain}
 use Rattle.chain.proofs.Results.{Same, result-one, swept-one}
 use Rattle.placing.specs.declared.ChainAnswer.{ChainAnswer}
-use Rattle.placing.specs.declared.over.Engine.{Engine}
-use Rattle.placing.specs.declared.over.Engine.the-variants.{Sweep, Plain}
-use Rattle.placing.specs.declared.over.Placement.{Placement}
-use Rattle.placing.specs.Answer.{IsBy, placementOf, Laid, refusalOf, acceptanceOf, Placed, Outcome, Answered}
+use Rattle.placing_over.specs.declared.over.Engine.{Engine}
+use Rattle.placing_over.specs.declared.over.Engine.the-variants.{Sweep, Plain}
+use Rattle.placing_over.specs.declared.over.Placement.{Placement}
+use Rattle.placing.specs.Answer.{refusalOf, acceptanceOf, Placed, Outcome, Answered}
+use Rattle.placing_over.specs.Engines.{IsBy, placementOf, Laid}
 
 -- each lent buffer has full size
 pub full-chain : (b : ChainBuffers) → roomyChain b ≡ true → (fullScores ≤ length (b .scores)) × (fullChain ≤ length (b .chain))

@@ -1,5 +1,3 @@
 -- The laws that the chaining entries' proofs cite, and that their promise admits one answer.
-pub mod Settings
-pub mod Results
 pub mod Reading
 pub mod Answering

@@ -31,7 +31,7 @@ use Rattle.anchors_read.specs.Answer.{answerOf, Answered}
 use Rattle.anchors_read.specs.declared.AnchorsAnswer.{AnchorsAnswer}
 use Rattle.chain.specs.Steps.{anchorAt}
 use Rattle.tables.proofs.Accepted.{full-roomy, accepted-holds, accepted-paths}
-use Rattle.placing.specs.Lying.{AnchorsLie, Given}
+use Rattle.placing_over.specs.Lying.{AnchorsLie, Given}
 
 -- ---- the anchors as they lie
 

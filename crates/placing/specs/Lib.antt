@@ -1,3 +1,2 @@
--- The definitions of the chaining entries: what lies in the buffers on the way, and what the entries promise.
-pub mod Lying
+-- What the chaining entries promise.
 pub mod Answer

@@ -1,17 +1,16 @@
 // The chaining entries: the sweep, and the plain pass that audits it, on the bytes of a graph file and an anchor file.
-pub mod over; // over.rt: one anchor file over a graph whose tables are made
 
 use anchors_read::read_anchors;
 use graph_read::read_graph;
-use over::Engine;
-use over::Placement;
-use over::place_over;
-use tables::cell_zeros;
-use tables::letter_zeros;
-use tables::make_tables;
-use tables::number_zeros;
-use tables::path_zeros;
-use tables::vertex_zeros;
+use placing_over::over::Engine;
+use placing_over::over::Placement;
+use placing_over::over::place_over;
+use tables_make::make::cell_zeros;
+use tables_make::make::letter_zeros;
+use tables_make::make::make_tables;
+use tables_make::make::number_zeros;
+use tables_make::make::path_zeros;
+use tables_make::make::vertex_zeros;
 use wire::refusals::SMALL_BUFFER;
 use wire::sizes::FULL_CHAIN;
 use wire::sizes::FULL_SCORES;
@@ -22,10 +21,11 @@ ghost use lib.ListN.{length};
 ghost use Rattle.wire.specs.Sizes.{tableRow, fullScores, fullChain};
 ghost use Rattle.graph.specs.Content.{Graph};
 ghost use Rattle.anchors.specs.Anchors.{AnchorSet};
-ghost use Rattle.chain.specs.ChainEntries.{IsSweep, IsPlain};
-ghost use Rattle.tables.specs.Made.{zeros};
-ghost use Rattle.placing.specs.Lying.{Given, SomeGiven};
-ghost use Rattle.placing.specs.Answer.{IsBy, Laid, refusalOf, roomFor, Answered};
+ghost use Rattle.chain.specs.ChainEntries.{IsSweep, IsPlain, roomForChain};
+ghost use Rattle.tables_make.specs.Made.{zeros};
+ghost use Rattle.placing_over.specs.Lying.{Given, SomeGiven};
+ghost use Rattle.placing.specs.Answer.{refusalOf, Answered};
+ghost use Rattle.placing_over.specs.Engines.{IsBy, Laid};
 
 // Number, file and place; then the anchors of the file, the greatest score, the rounds and the chain's length.
 pub struct ChainAnswer {
@@ -151,7 +151,7 @@ fn refusal(number: u32, file: u32, place: u32) -> ChainAnswer
 
 // Whether each buffer has full size, by its length.
 fn roomy(scores: usize, chain: usize) -> bool
-    ensures { λ r. ⌜ r ≡ roomFor scores chain ⌝ }
+    ensures { λ r. ⌜ r ≡ roomForChain scores chain ⌝ }
 {
     if scores < FULL_SCORES {
         return false;

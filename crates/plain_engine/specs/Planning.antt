@@ -10,7 +10,7 @@ use Rattle.graph.specs.Content.{Graph}
 use Rattle.anchors.specs.Anchors.{AnchorSet, perAnchor}
 use Rattle.anchors.specs.AnchorEntries.{anchorIn}
 use Rattle.chain.specs.Chains.{IsBest}
-use Rattle.steps.specs.Pairs.{bestIn}
+use Rattle.pair_step.specs.Pairs.{bestIn}
 use Rattle.steps.specs.Setting.{Setting, anchorOf, rowIn, Holds}
 
 -- the first place in the read of anchor number j: "The plain pass takes pairs in read order"
@@ -35,6 +35,6 @@ takenAt s j S = set S (j - 1) (takes s j S)
 pub record BestWhere (s : Setting) (S : List ℕ) (P : ℕ → Type 0) : Type 0 where
   pub best : (g : Graph) (a : AnchorSet) → Holds s g a → (j : ℕ) → Within (s .count) j → P j → IsBest g (a .anchors) j (entry j S)
 
--- it stands in read order before place c, or at c with a number up to `done`
+-- "The plain pass takes pairs in read order": anchor j stands there before place c, or at c with a number up to `done`
 abbrev pub Taken : Setting → ℕ → ℕ → ℕ → Type 0
 Taken s c done j = (anchorOf s j .c < c) ⊎ ((anchorOf s j .c ≡ c) × (j ≤ done))

@@ -1,6 +1,6 @@
 -- The anchors of a setting, and that their best scores are low. Assumes nothing.
 use Prim.Native.Nat.{ℕ, zero, suc, _*_, _≤_, _<_}
-use mathlib.Core.Path.{_≡_, refl, ap, _∙_, subst}
+use mathlib.Core.Path.{_≡_, refl, ap, _∙_}
 use mathlib.Core.List.{List}
 use native.Mathlib.Omega.{arith}
 use lib.ListN.{length}
@@ -11,11 +11,11 @@ use Rattle.graph.specs.Content.{Graph}
 use Rattle.anchors.specs.Anchors.{Anchor, AnchorSet}
 use Rattle.chain.specs.Steps.{anchorAt, Step}
 use Rattle.chain.specs.Chains.{Chain, one, more, IsBest}
-use Rattle.chain.proofs.StepLaws.{Sound, step-one, step-rises}
+use Rattle.chain.proofs.StepLaws.{Sound, good-sound, step-one, step-rises}
 use Rattle.chain.proofs.BestScores.{chain-within}
 use Rattle.steps.specs.Setting.{Setting, anchorOf, stepOf, Holds, Prepared}
 use Rattle.steps.specs.Scores.{AllBest, Scored}
-use Rattle.steps.proofs.SettingLaws.{AnchorFits, anchor-fits, held-not, held-step}
+use Rattle.steps.proofs.SettingLaws.{anchor-fits, held-not, held-step}
 
 module _ {s : Setting} {g : Graph} {a : AnchorSet} (H : Holds s g a) where
   pub held-within : {j : ℕ} → Within (s .count) j → Within (length (a .anchors)) j
@@ -29,10 +29,7 @@ module _ {s : Setting} {g : Graph} {a : AnchorSet} (H : Holds s g a) where
   held-number f j w = ap f (H .numbers j w)
 
   pub held-sound : Sound (a .anchors)
-  held-sound = record { heavy = λ j w. fits j w .weight .low; spans = λ j w. fits j w .length }
-    where
-      fits : (j : ℕ) → Within (length (a .anchors)) j → AnchorFits (s .n) (anchorAt (a .anchors) j)
-      fits j w = subst (AnchorFits (s .n)) (H .numbers j (within-held w)) (anchor-fits H j (within-held w))
+  held-sound = good-sound (H .goodAnchors)
 
   -- the read place rises along a step
   pub held-order : (i j k : ℕ) → Within (s .count) i → Within (s .count) j → Step g (anchorAt (a .anchors) i) (anchorAt (a .anchors) j) k

@@ -18,10 +18,10 @@ use Rattle.anchors.specs.GoodAnchors.{GoodAnchor, GoodAnchors}
 use Rattle.cover.specs.Walks.{L}
 use Rattle.cover.proofs.GoodLaws.{all-at, labels-few, total-upto}
 use Rattle.chain.specs.Steps.{anchorAt, Before, Step}
-use Rattle.steps.specs.Pairs.{stepIn, stepFrom, EndsFit, RowFits, ScoresFit}
+use Rattle.pair_step.specs.Pairs.{stepIn, stepFrom, EndsFit, RowFits, ScoresFit}
 use Rattle.steps.specs.Setting.{Setting, anchorOf, rowIn, stepOf, Holds}
 use Rattle.steps.specs.Scores.{ScoresLow}
-use Rattle.steps.proofs.PairLaws.{step-late}
+use Rattle.pair_step.proofs.PairLaws.{step-late}
 use Rattle.steps.proofs.RowLaws.{row-says, row-own, row-long}
 use Rattle.steps.proofs.StepSays.{RowSays, step-not, step-is, entry-fits}
 

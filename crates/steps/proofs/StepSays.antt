@@ -21,9 +21,9 @@ use Rattle.cover.proofs.CoverLaws.{cover-at-least, cover-few}
 use Rattle.cover.proofs.GoesLaws.{cover-goes, says-none, closed-none, closed-goes, closed-at-least}
 use Rattle.cover.proofs.TablesThere.{closed-few}
 use Rattle.chain.specs.Steps.{Before, Jump, ahead, round, across, Step}
-use Rattle.steps.specs.Pairs.{jumpIn, stepIn}
+use Rattle.pair_step.specs.Pairs.{jumpIn, stepIn}
 use Rattle.steps.specs.Setting.{closedEntry}
-use Rattle.steps.proofs.PairLaws.{jump-ahead, jump-apart, jump-round, step-late, step-none, step-some}
+use Rattle.pair_step.proofs.PairLaws.{jump-ahead, jump-apart, jump-round, step-late, step-none, step-some}
 
 -- the row says the cover distance to v from every other vertex, and for v itself the closed walk
 pub record RowSays (g : Graph) (v : ℕ) (row : List ℕ) : Type 0 where

@@ -18,7 +18,7 @@ use Rattle.cover.specs.CoverDistance.{pathAt}
 use Rattle.cover.specs.Finished.{ReachTable, DistanceTable}
 use Rattle.cover.specs.Row.{unknown, put}
 use Rattle.chain.specs.Steps.{anchorAt}
-use Rattle.steps.specs.Pairs.{Ends, stepFrom}
+use Rattle.pair_step.specs.Pairs.{Ends, stepFrom}
 
 -- n vertices, k paths, `count` anchors; the labels' lengths; the paths, each in its room; the tables; the anchors' numbers, five for each; where they end
 pub record Setting : Type 0 where

@@ -26,13 +26,13 @@ use Rattle.cover.proofs.GoesLaws.{goes-cover}
 use Rattle.cover.proofs.CoverLaws.{cover-at-least}
 use Rattle.chain.specs.Steps.{anchorAt}
 use Rattle.chain.specs.Sweep.{IsSteps, weights, stepLinks, sweepRound, Swept, none, rounds}
-use Rattle.chain.proofs.StepLaws.{Sound}
+use Rattle.chain.proofs.StepLaws.{Sound, good-sound}
 use Rattle.chain.proofs.StepsThere.{Distances}
 use Rattle.chain.proofs.SweepLaws.{SweptWell, sweep-settles, swept-well}
 use Rattle.steps.specs.Setting.{Setting, anchorOf, stepOf, Holds}
 use Rattle.sweep_engine.specs.Sweeping.{ruleOf, roundOf, weightsOf, SweptIn, empty, made}
 use Rattle.steps.proofs.EachLaws.{each-length, each-at}
-use Rattle.steps.proofs.SettingLaws.{held-anchor, held-not, held-step}
+use Rattle.steps.proofs.SettingLaws.{held-not, held-step}
 
 -- ---- a number that counts only where two facts hold
 
@@ -153,10 +153,7 @@ module _ {s : Setting} {g : Graph} {a : AnchorSet} (H : Holds s g a) where
           ∙ sym (List·getD-map (λ (A : Anchor). A .weight) (a .anchors) i noAnchor)
 
   sound : Sound (a .anchors)
-  sound = record {
-    heavy = λ j w. held-anchor H j (within-anchor w) .someWeight;
-    spans = λ j w. held-anchor H j (within-anchor w) .someLength;
-  }
+  sound = good-sound (H .goodAnchors)
 
   -- with some anchors, they end
   pub sweep-ends : 1 ≤ s .count → Ends (s .count) (roundOf s) (weightsOf s)

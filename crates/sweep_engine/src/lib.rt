@@ -1,7 +1,7 @@
 // The sweep: scores start at the weights, and rounds in place raise them until one is quiet.
 use anchors::PER_ANCHOR;
+use pair_step::step::best_of;
 use steps::row::row_for;
-use steps::step::best_of;
 ghost use mathlib.Core.Path.{_≡_};
 ghost use mathlib.Core.Logic.{_≢_};
 ghost use Prim.Native.Nat.{_*_, _≤_};

@@ -2,4 +2,3 @@
 pub mod Relaxing
 pub mod Sweeping
 pub mod Starts
-pub mod Closes

@@ -1,4 +1,4 @@
--- A walk along the edges into a vertex: what each turn adds to a row of a table, by any rules; of reach, distance and least walks; and to a walk back. Assumes nothing.
+-- A walk along the edges into a vertex: what each turn adds to a row of a table, by any rules; of reach, distance and least walks. Assumes nothing.
 use Prim.Native.Nat.{ℕ, zero, suc, _+_, _-_, _*_, _≤_, _<_, _^_, max}
 use mathlib.Core.Path.{_≡_, refl, sym, ap, _∙_, subst}
 use mathlib.Core.Logic.{_≢_, _⊎_, inl, inr}
@@ -18,26 +18,25 @@ use Rattle.rounds.proofs.Gather.{gather-none, gather-take, gather-skip}
 use Rattle.table_rows.specs.Lanes.{Lanes, brought}
 use Rattle.table_rows.specs.HeldEdges.{source, target}
 use Rattle.table_rounds.specs.Held.{labelLength, heldLinks, raise, near, onward, Fitting}
-use Rattle.table_rounds.specs.Closing.{backBy}
 use Rattle.table_rows.proofs.Laning.{brought-level, brought-none, closer-none}
 use Rattle.table_rows.specs.Lists.{IsNext}
 use Rattle.table_rows.proofs.Linking.{Passes, gather-idle, Walking, walk-on, walk-turn, walk-end}
 
 -- a gathering's last turn, by the candidate's own number
-take-last : {X : ℕ → Type 0} (join : ℕ → ℕ → ℕ) (test : (e : ℕ) → Dec (X e)) (candidate : ℕ → ℕ) (first e : ℕ) → 1 ≤ e → X e
+pub take-last : {X : ℕ → Type 0} (join : ℕ → ℕ → ℕ) (test : (e : ℕ) → Dec (X e)) (candidate : ℕ → ℕ) (first e : ℕ) → 1 ≤ e → X e
     → gather join test candidate first e ≡ join (gather join test candidate first (e - 1)) (candidate e)
 take-last {X} join test candidate first e l x =
     let q : e - 1 + 1 ≡ e = omega arith in
     rw q at (gather-take join test candidate first (e - 1) (rw q x))
 
-skip-last : {X : ℕ → Type 0} (join : ℕ → ℕ → ℕ) (test : (e : ℕ) → Dec (X e)) (candidate : ℕ → ℕ) (first e : ℕ) → 1 ≤ e → ¬ X e
+pub skip-last : {X : ℕ → Type 0} (join : ℕ → ℕ → ℕ) (test : (e : ℕ) → Dec (X e)) (candidate : ℕ → ℕ) (first e : ℕ) → 1 ≤ e → ¬ X e
     → gather join test candidate first e ≡ gather join test candidate first (e - 1)
 skip-last {X} join test candidate first e l x =
     let q : e - 1 + 1 ≡ e = omega arith in
     rw q at (gather-skip join test candidate first (e - 1) (rw q x))
 
 -- cell (v, i + 1) at its place
-at-cell : (v i : ℕ) (t : List ℕ) → 1 ≤ v → getD t (16 * (v - 1) + i) 0 ≡ cell cellPlace v (i + 1) t
+pub at-cell : (v i : ℕ) (t : List ℕ) → 1 ≤ v → getD t (16 * (v - 1) + i) 0 ≡ cell cellPlace v (i + 1) t
 at-cell v i t l = ap (λ (q : ℕ). getD t q 0) (omega arith)
 
 -- an entry with the label of its vertex fits
@@ -102,7 +101,7 @@ raised-turn edges table v {m} {e} u row new w h q s r n = taken-turn table (λ _
 -- ---- distance and least walks
 
 -- the nearer of a lane and of what an edge from u brings, by u's cell
-over-cell : (lengths table : List ℕ) (u i : ℕ) {x y : ℕ} → 1 ≤ u → x ≡ y
+pub over-cell : (lengths table : List ℕ) (u i : ℕ) {x y : ℕ} → 1 ≤ u → x ≡ y
     → closer x (shift (getD table (16 * (u - 1) + i) 0) (labelLength lengths u)) ≡ closer y (shift (cell cellPlace u (i + 1) table) (labelLength lengths u))
 over-cell lengths table u i {x} s e = ap (λ (z : ℕ). closer x (shift z (labelLength lengths u))) (at-cell u i table s) ∙ ap (λ (z : ℕ). closer z (shift (cell cellPlace u (i + 1) table) (labelLength lengths u))) e
 
@@ -135,31 +134,3 @@ stepped-turn lengths edges table v {m} {e} u row new w h q s r n = taken-turn ta
     (λ l t i b o. r .lane i b ∙ over-cell lengths table u i s o
     ∙ ap (λ (y : ℕ). closer (takenBy table (onward m lengths edges) v (e - 1) i) (shift (cell cellPlace y (i + 1) table) (labelLength lengths y))) q
     ∙ sym (taken-more table (onward m lengths edges) v e i l t)) n
-
--- ---- a walk back
-
-module _ (lengths edges table : List ℕ) (v i : ℕ) where
-  pub back-none : 0 ≡ backBy lengths edges table v (i + 1) 0
-  unfolding backBy
-  back-none = sym (gather-none closer (heldLinks 0 edges .into? v) _ _)
-
-  back-pass : (m x : ℕ) → Passes (target edges) v m (λ k. x ≡ backBy lengths edges table v (i + 1) k)
-  unfolding backBy
-  back-pass m x j k l h none r = r ∙ gather-idle closer (heldLinks k edges .into? v) _ _ j k l none
-
-  back-take : (e x y : ℕ) → 1 ≤ e → target edges e ≡ v → 1 ≤ source edges e → y ≡ closer x (shift (getD table (16 * (source edges e - 1) + i) 0) (labelLength lengths (source edges e)))
-      → x ≡ backBy lengths edges table v (i + 1) (e - 1) → y ≡ backBy lengths edges table v (i + 1) e
-  unfolding backBy
-  back-take e x y l t s w r = w ∙ over-cell lengths table (source edges e) i s r
-      ∙ sym (take-last closer (heldLinks e edges .into? v) (λ d. shift (cell cellPlace (source edges d) (i + 1) table) (labelLength lengths (source edges d))) _ e l t)
-
-  pub back-turn : {m e x : ℕ} (u y z : ℕ) → Walking (target edges) v m e (λ k. y ≡ backBy lengths edges table v (i + 1) k) → e ≢ 0 → u ≡ source edges e → 1 ≤ u
-      → z ≡ closer y (shift (getD table (16 * (u - 1) + i) 0) (labelLength lengths u)) → IsNext (target edges) (target edges e) e m x
-      → Walking (target edges) v m x (λ k. z ≡ backBy lengths edges table v (i + 1) k)
-  back-turn {m} {e} u y z w h q s r n =
-      let (k, t) = walk-on w h in
-      walk-turn {P = λ k. y ≡ backBy lengths edges table v (i + 1) k} {Q = λ k. z ≡ backBy lengths edges table v (i + 1) k} w h (back-pass m y)
-      (λ o. back-take e y z (k .low) t (omega arith) (subst (λ (a : ℕ). z ≡ closer y (shift (getD table (16 * (a - 1) + i) 0) (labelLength lengths a))) q r) o) n
-
-  pub back-end : {m e : ℕ} (y : ℕ) → Walking (target edges) v m e (λ k. y ≡ backBy lengths edges table v (i + 1) k) → e ≡ 0 → y ≡ backBy lengths edges table v (i + 1) m
-  back-end {m} y w z = walk-end {P = λ k. y ≡ backBy lengths edges table v (i + 1) k} w z (back-pass m y)

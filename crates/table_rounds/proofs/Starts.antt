@@ -22,7 +22,6 @@ use Rattle.cover.proofs.TableLaws.{table-size, table-cell}
 use Rattle.cover.proofs.DistanceRounds.{home-one}
 use Rattle.table_rounds.specs.Held.{pathIn, PathsHeld}
 use Rattle.table_rounds.specs.Starting.{OnTable, Owned}
-use Rattle.table_rounds.specs.Closing.{sixteenStart}
 
 -- ---- a table filled place by place
 
@@ -161,10 +160,6 @@ homes-place n paths reach q h =
     let b : 16 * (q / 16 + 1 - 1) + (q % 16 + 1) - 1 ≡ q = omega arith in
     sym (table-place n (homesIn paths reach) q h ∙ ap (λ (y : ℕ). home (drop (pathRoom * y) paths) (getD reach (16 * (q / 16 + 1 - 1) + (q % 16 + 1) - 1) 0) (q / 16 + 1)) a
     ∙ ap (λ (y : ℕ). home (drop (pathRoom * (q % 16)) paths) (getD reach y 0) (q / 16 + 1)) b)
-
--- the start of sixteen vertices, place by place
-pub sixteen-place : (n base q : ℕ) → q < tableRow * n → home ((base + q % 16 + 1) ∷ []) 1 (q / 16 + 1) ≡ getD (sixteenStart n base) q 0
-sixteen-place n base q h = sym (table-place n (λ v i. home ((base + i) ∷ []) 1 v) q h ∙ ap (λ (y : ℕ). home (y ∷ []) 1 (q / 16 + 1)) (omega arith))
 
 -- a part of the paths is a path
 pub part-path : (paths counts : List ℕ) (i x : ℕ) → x ≡ getD counts i 0 → take (pathRoom * i + x - pathRoom * i) (drop (pathRoom * i) paths) ≡ pathIn paths counts (i + 1)

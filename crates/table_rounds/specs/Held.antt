@@ -69,6 +69,7 @@ heldLevels m edges r = record {
 abbrev pub raise : ℕ → List ℕ → Rule
 raise m edges = greatestRule (heldLinks m edges)
 
+-- a round of it
 abbrev pub raiseRound : ℕ → ℕ → List ℕ → List ℕ → List ℕ
 raiseRound n m edges = tableRound cellPlace (λ _. raise m edges) tableRow n
 
@@ -76,9 +77,11 @@ raiseRound n m edges = tableRound cellPlace (λ _. raise m edges) tableRow n
 abbrev pub near : ℕ → List ℕ → List ℕ → List ℕ → ℕ → Rule
 near m lengths edges reach i = leastRule (heldLevels m edges (λ v. cell cellPlace v i reach)) (λ e. labelLength lengths (source edges e))
 
+-- vertex v is taken by it, in every column
 abbrev pub nearRow : ℕ → List ℕ → List ℕ → List ℕ → ℕ → List ℕ → List ℕ
 nearRow m lengths edges reach = rowStep cellPlace (near m lengths edges reach) tableRow
 
+-- a round of it
 abbrev pub nearRound : ℕ → ℕ → List ℕ → List ℕ → List ℕ → List ℕ → List ℕ
 nearRound n m lengths edges reach = tableRound cellPlace (near m lengths edges reach) tableRow n
 

@@ -1,4 +1,3 @@
 -- The definitions that the contracts of the rounds' code cite.
 pub mod Held
 pub mod Starting
-pub mod Closing

@@ -18,8 +18,8 @@ use Rattle.graph_read.proofs.Replying.{Full}
 use Rattle.graph_read.proofs.Outcome.{Accepts}
 use Rattle.cover.specs.TableEntries.{TableBuffers, roomyTables, tablesReply}
 use Rattle.table_rounds.specs.Held.{Holds}
-use Rattle.tables.proofs.Meaning.{holds-on}
-use Rattle.tables.proofs.Holding.{holds-filled}
+use Rattle.tables_make.proofs.Meaning.{holds-on}
+use Rattle.tables_make.proofs.Holding.{holds-filled}
 
 -- each lent buffer has full size
 pub full-tables : (b : TableBuffers) → roomyTables b ≡ true → (fullTable ≤ length (b .reach)) × (fullTable ≤ length (b .distance)) × (fullClosed ≤ length (b .closed))

@@ -2,11 +2,7 @@
 use Prim.Native.Nat.{ℕ}
 use mathlib.Core.Path.{_≡_}
 use mathlib.Core.List.{List}
-use mathlib.Core.Bool.{Bool, _&&_}
-use lib.ListN.{length}
-use lib.Dec.{leb}
 use Rattle.wire.specs.Found.{Reply, accepted, refused}
-use Rattle.wire.specs.Sizes.{fullTable, fullClosed}
 use Rattle.graph.specs.Content.{Graph, vertexCount, pathCount}
 use Rattle.graph.specs.Reading.{Parsed}
 use Rattle.cover.specs.TableEntries.{Tables, IsTables, TableBuffers, tablesReply, filledTables}
@@ -48,7 +44,3 @@ Outcome (refused k file place) b after r = Untabled k file place b after r
 -- the promise: b and `after` are the lent buffers before and after the call, r is the answer
 pub record Answered (file : List ℕ) (b after : TableBuffers) (r : TablesAnswer) : Type 0 where
   pub outcome : Outcome (tablesReply file b) b after r
-
--- the room test on the buffers' lengths
-abbrev pub roomFor : ℕ → ℕ → ℕ → Bool
-roomFor reach distance closed = _&&_ (leb fullTable reach) (_&&_ (leb fullTable distance) (leb fullClosed closed))

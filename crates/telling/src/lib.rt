@@ -83,13 +83,3 @@ pub fn count_numbers(numbers: &[u32], x: u32) -> u64
     }
     n
 }
-
-// Writes how many numbers are 0.
-pub fn say_zero(numbers: &[u32]) {
-    say_number(b" ", count_numbers(numbers, 0));
-}
-
-// Writes how many numbers are as they were.
-pub fn say_before(numbers: &[u32]) {
-    say_number(b" ", count_numbers(numbers, NUMBER_BEFORE));
-}

@@ -17,7 +17,7 @@ use Rattle.chain.specs.ChainEntries.{ChainBuffers, IsSweep, IsPlain}
 use Rattle.cover.specs.TableEntries.{TableBuffers}
 use Rattle.placing.proofs.Answering as placing
 use Rattle.placing.specs.declared.ChainAnswer.{ChainAnswer}
-use Rattle.placing.specs.declared.over.Engine.the-variants.{Sweep, Plain}
+use Rattle.placing_over.specs.declared.over.Engine.the-variants.{Sweep, Plain}
 use Rattle.tables.proofs.Tabling as tables
 use Rattle.tables.specs.declared.TablesAnswer.{TablesAnswer}
 use Rattle.toadtrellis.specs.declared.ToadGraph.{ToadGraph}

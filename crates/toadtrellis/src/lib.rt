@@ -1,7 +1,7 @@
 // The delivered library: its entries under the names for C and Rust (include/toadtrellis.h). A slice is a pointer and a length; an answer is a
 // struct by value. Each entry calls the layer's own and has the same promise, with no demand on its caller.
-use anchors_check::view::view;
 use anchors_read::read_anchors;
+use anchors_view::view::view;
 use anchors_write::write_anchors;
 use graph_read::read_graph;
 use graph_write::write_graph;

@@ -1,7 +1,8 @@
 // Numbers, written and read.
 use telling::say;
 use telling::say_bytes;
-use telling::say_number;
+use texts::part;
+use texts::say_filled;
 use wire::numbers::Cursor;
 use wire::numbers::Number;
 use wire::numbers::group_count;
@@ -10,8 +11,7 @@ use wire::numbers::read_number;
 
 // Writes how a number is written.
 fn write_case(x: u32) {
-    say_number(b"write ", x as u64);
-    say(b":");
+    say_filled(b"write #:", &[x as u64]);
     if group_count(x) <= 5 {
         let mut out = [0u8; 5];
         let n = put_number(&mut out, x);
@@ -20,33 +20,44 @@ fn write_case(x: u32) {
     say(b"\n");
 }
 
+// Writes what was found where bytes are read as a number.
+fn say_found(found: Number) {
+    match found {
+        Number::Value(value, next) => {
+            say_filled(b": value # next #\n", &[value as u64, next.at as u64]);
+        }
+        Number::Fault(number, place) => {
+            say_filled(b": refused # place #\n", &[number as u64, place as u64]);
+        }
+    }
+}
+
 // Writes what is found where bytes are read as a number.
 fn read_case(bytes: &[u8]) {
     say(b"read");
     say_bytes(bytes, bytes.len());
-    let found = read_number(bytes, Cursor { at: 0 });
-    match found {
-        Number::Value(value, next) => {
-            say_number(b": value ", value as u64);
-            say_number(b" next ", next.at as u64);
-        }
-        Number::Fault(number, place) => {
-            say_number(b": refused ", number as u64);
-            say_number(b" place ", place as u64);
-        }
-    }
-    say(b"\n");
+    say_found(read_number(bytes, Cursor { at: 0 }));
 }
 
 // The numbers of "Checked by hand", and the greatest one written.
-pub fn number_cases() {
+fn write_cases() {
     say(b"numbers\n");
     write_case(127);
     write_case(128);
     write_case(4294967295);
-    read_case(b"\x7f"); // 127
-    read_case(b"\x80\x01"); // 128
-    read_case(b"\x80\x00"); // not in the fewest bytes
-    read_case(b"\xff\xff\xff\xff\x0f"); // the greatest
-    read_case(b"\xff\xff\xff\xff\x10"); // too great
+}
+
+// The bytes of a text.
+fn read_cases(text: &[u8]) {
+    read_case(part(text, 0)); // 127
+    read_case(part(text, 1)); // 128
+    read_case(part(text, 2)); // not in the fewest bytes
+    read_case(part(text, 3)); // the greatest
+    read_case(part(text, 4)); // too great
+}
+
+// All numbers.
+pub fn number_cases() {
+    write_cases();
+    read_cases(b"\x7f|\x80\x01|\x80\x00|\xff\xff\xff\xff\x0f|\xff\xff\xff\xff\x10|");
 }

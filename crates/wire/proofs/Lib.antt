@@ -9,4 +9,3 @@ pub mod Alphabet
 pub mod Finding
 pub mod Cutting
 pub mod Replying
-pub mod Starred

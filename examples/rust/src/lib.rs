@@ -1,23 +1,15 @@
 //! Safe Rust over the proved library `toadtrellis`. Content is owned: each function lends the library buffers of full size, and hands back the used
 //! places, or the refusal with its number, file and place. Nothing is asked of a caller: the library checks every file itself.
 
-mod raw;
+pub mod raw;
 
+use raw::{Engine, PATH_ROOM};
+use raw::{FULL_ANCHORS, FULL_CHAIN, FULL_CLOSED, FULL_COUNTS, FULL_EDGES, FULL_LENGTHS, FULL_LETTERS, FULL_PATHS, FULL_SCORES, FULL_TABLE};
 use std::fmt;
 
 /// The most bytes of a file.
 pub const MOST_FILE_BYTES: usize = 65_536;
 
-const FULL_LETTERS: usize = 32_768;
-const FULL_LENGTHS: usize = 1_024;
-const FULL_EDGES: usize = 8_192;
-const FULL_PATHS: usize = 16_384;
-const FULL_COUNTS: usize = 16;
-const FULL_ANCHORS: usize = 10_240;
-const FULL_TABLE: usize = 16_384;
-const FULL_CLOSED: usize = 1_024;
-const FULL_CHAIN: usize = 2_048;
-const PATH_ROOM: usize = 1_024;
 const ROW: usize = 16;
 
 /// The first fault: its number, its file (1 graph, 2 anchors) and its place in bytes from 0.
@@ -59,23 +51,7 @@ pub fn read_graph(file: &[u8]) -> Result<Graph, Refusal> {
     let mut edges = vec![0u32; FULL_EDGES];
     let mut paths = vec![0u32; FULL_PATHS];
     let mut counts = vec![0u32; FULL_COUNTS];
-    // SAFETY: each pointer is valid for the length that follows it, and no two of the slices overlap.
-    let r = unsafe {
-        raw::toad_read_graph(
-            file.as_ptr(),
-            file.len(),
-            letters.as_mut_ptr(),
-            letters.len(),
-            lengths.as_mut_ptr(),
-            lengths.len(),
-            edges.as_mut_ptr(),
-            edges.len(),
-            paths.as_mut_ptr(),
-            paths.len(),
-            counts.as_mut_ptr(),
-            counts.len(),
-        )
-    };
+    let r = raw::read_graph(file, &mut letters, &mut lengths, &mut edges, &mut paths, &mut counts);
     answered(r.number, r.file, r.place)?;
     let mut rest = &letters[..r.letters as usize];
     let mut labels = Vec::new();
@@ -116,26 +92,8 @@ pub fn write_graph(graph: &Graph) -> Result<Vec<u8>, Refusal> {
     let paths = laid(0, FULL_PATHS, &paths);
     let counts = laid(0, FULL_COUNTS, &counts);
     let mut out = vec![0u8; MOST_FILE_BYTES];
-    // SAFETY: each pointer is valid for the length that follows it, and `out` overlaps no other slice.
-    let r = unsafe {
-        raw::toad_write_graph(
-            count(graph.labels.len()),
-            count(graph.edges.len()),
-            count(graph.paths.len()),
-            letters.as_ptr(),
-            letters.len(),
-            lengths.as_ptr(),
-            lengths.len(),
-            edges.as_ptr(),
-            edges.len(),
-            paths.as_ptr(),
-            paths.len(),
-            counts.as_ptr(),
-            counts.len(),
-            out.as_mut_ptr(),
-            out.len(),
-        )
-    };
+    let [n, m, k] = [graph.labels.len(), graph.edges.len(), graph.paths.len()].map(count);
+    let r = raw::write_graph(n, m, k, &letters, &lengths, &edges, &paths, &counts, &mut out);
     answered(r.number, r.file, r.place)?;
     out.truncate(r.bytes as usize);
     Ok(out)
@@ -174,19 +132,7 @@ pub struct Anchors {
 pub fn read_anchors(graph: &[u8], file: &[u8]) -> Result<Anchors, Refusal> {
     let mut letters = vec![0u8; FULL_LETTERS];
     let mut numbers = vec![0u32; FULL_ANCHORS];
-    // SAFETY: each pointer is valid for the length that follows it, and no slice that is written overlaps another.
-    let r = unsafe {
-        raw::toad_read_anchors(
-            graph.as_ptr(),
-            graph.len(),
-            file.as_ptr(),
-            file.len(),
-            letters.as_mut_ptr(),
-            letters.len(),
-            numbers.as_mut_ptr(),
-            numbers.len(),
-        )
-    };
+    let r = raw::read_anchors(graph, file, &mut letters, &mut numbers);
     answered(r.number, r.file, r.place)?;
     letters.truncate(r.letters as usize);
     let anchors = numbers.chunks(5).take(r.anchors as usize).map(|a| Anchor {
@@ -205,21 +151,8 @@ pub fn write_anchors(anchors: &Anchors, graph: &[u8]) -> Result<Vec<u8>, Refusal
     let letters = laid(0, FULL_LETTERS, &anchors.read);
     let rooms = laid(0, FULL_ANCHORS, &numbers);
     let mut out = vec![0u8; MOST_FILE_BYTES];
-    // SAFETY: each pointer is valid for the length that follows it, and `out` overlaps no other slice.
-    let r = unsafe {
-        raw::toad_write_anchors(
-            count(anchors.read.len()),
-            count(anchors.anchors.len()),
-            letters.as_ptr(),
-            letters.len(),
-            rooms.as_ptr(),
-            rooms.len(),
-            graph.as_ptr(),
-            graph.len(),
-            out.as_mut_ptr(),
-            out.len(),
-        )
-    };
+    let [letters_count, anchors_count] = [anchors.read.len(), anchors.anchors.len()].map(count);
+    let r = raw::write_anchors(letters_count, anchors_count, &letters, &rooms, graph, &mut out);
     answered(r.number, r.file, r.place)?;
     out.truncate(r.bytes as usize);
     Ok(out)
@@ -240,19 +173,7 @@ pub fn tables(file: &[u8]) -> Result<Tables, Refusal> {
     let mut reach = vec![0u32; FULL_TABLE];
     let mut distance = vec![0u32; FULL_TABLE];
     let mut closed = vec![0u32; FULL_CLOSED];
-    // SAFETY: each pointer is valid for the length that follows it, and no two of the slices overlap.
-    let r = unsafe {
-        raw::toad_tables(
-            file.as_ptr(),
-            file.len(),
-            reach.as_mut_ptr(),
-            reach.len(),
-            distance.as_mut_ptr(),
-            distance.len(),
-            closed.as_mut_ptr(),
-            closed.len(),
-        )
-    };
+    let r = raw::tables(file, &mut reach, &mut distance, &mut closed);
     answered(r.number, r.file, r.place)?;
     let rows = |cells: &[u32]| -> Vec<Vec<u32>> {
         let used = cells.chunks(ROW).take(r.vertices as usize);
@@ -277,24 +198,10 @@ pub struct Chain {
     pub rounds: u32,
 }
 
-type Engine = unsafe extern "C" fn(*const u8, usize, *const u8, usize, *mut u32, usize, *mut u32, usize) -> raw::ToadChain;
-
 fn chain_by(engine: Engine, graph: &[u8], file: &[u8]) -> Result<Chain, Refusal> {
-    let mut scores = vec![0u32; FULL_CHAIN];
+    let mut scores = vec![0u32; FULL_SCORES];
     let mut chain = vec![0u32; FULL_CHAIN];
-    // SAFETY: each pointer is valid for the length that follows it, and no slice that is written overlaps another.
-    let r = unsafe {
-        engine(
-            graph.as_ptr(),
-            graph.len(),
-            file.as_ptr(),
-            file.len(),
-            scores.as_mut_ptr(),
-            scores.len(),
-            chain.as_mut_ptr(),
-            chain.len(),
-        )
-    };
+    let r = engine(graph, file, &mut scores, &mut chain);
     answered(r.number, r.file, r.place)?;
     scores.truncate(r.anchors as usize);
     chain.truncate(r.length as usize);
@@ -303,19 +210,18 @@ fn chain_by(engine: Engine, graph: &[u8], file: &[u8]) -> Result<Chain, Refusal>
 
 /// Finds the best chain by the sweep.
 pub fn sweep(graph: &[u8], file: &[u8]) -> Result<Chain, Refusal> {
-    chain_by(raw::toad_sweep, graph, file)
+    chain_by(raw::sweep, graph, file)
 }
 
 /// Finds it by the plain pass, which audits the sweep; its rounds are 0.
 pub fn plain(graph: &[u8], file: &[u8]) -> Result<Chain, Refusal> {
-    chain_by(raw::toad_plain, graph, file)
+    chain_by(raw::plain, graph, file)
 }
 
 /// The letters of one anchor as they stand in the file named, 1 graph or 2 anchors; empty where a file is refused, the number is not 1 to N, or the
 /// file named is neither.
 pub fn letters<'a>(graph: &'a [u8], file: &'a [u8], number: u32, which: u32) -> &'a [u8] {
-    // SAFETY: each pointer is valid for the length that follows it.
-    let p = unsafe { raw::toad_letters(graph.as_ptr(), graph.len(), file.as_ptr(), file.len(), number, which) };
+    let p = raw::letters(graph, file, number, which);
     let named = if which == 2 { file } else { graph };
     &named[p.start as usize..][..p.length as usize]
 }

@@ -6,7 +6,7 @@ use Rattle.graph_check.specs.declared.Sections.{Sections}
 use Rattle.anchors_check.specs.CheckedAnchors.{checkedBothOf, graphFileRefused, anchorFileRefused}
 use Rattle.anchors_check.specs.declared.AnchorSections.{AnchorSections}
 use Rattle.anchors_check.specs.declared.CheckedBoth.the-variants.{Accepted}
-use Rattle.anchors_check.proofs.LabelLaws.{few-vertices, length-zeros, tables-made}
+use Rattle.anchors_parts.proofs.LabelLaws.{few-vertices, length-zeros, tables-made}
 use Rattle.anchors_check.proofs.BothLaws.{GraphTold, graph-told, both-graph, both-anchors, both-accepted}
 use borrow.Author.Needs.{needs}
 use Rattle.anchors_check.proofs.check_anchors.Statement.{statement}

@@ -16,7 +16,7 @@ use Rattle.anchors.specs.Anchors.{Anchor}
 use Rattle.anchors.specs.AnchorRules.{noAnchor}
 use Rattle.anchors.specs.AnchorReading.{anchorsFrom, anchorsOf}
 use Rattle.anchors_check.specs.CheckedAnchors.{checkedAnchorsOf, anchorsRefused}
-use Rattle.anchors_check.specs.LabelTables.{contentOf}
+use Rattle.anchors_parts.specs.LabelTables.{contentOf}
 use Rattle.anchors_check.specs.declared.CheckedAnchors.the-variants.{Accepted, Fault}
 use Rattle.wire.specs.declared.numbers.Number.the-variants.{Value}
 use Rattle.anchors.proofs.AnchorAccepting.{anchors-read}

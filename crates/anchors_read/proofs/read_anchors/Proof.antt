@@ -21,7 +21,7 @@ use Rattle.anchors_read.proofs.acceptance.Reads as acceptance-reads
 use Rattle.anchors_read.proofs.fills.fill_anchors.Reads as fill-anchors-reads
 use Rattle.anchors_read.proofs.fills.fill_read.Reads as fill-read-reads
 use Rattle.anchors_read.proofs.refusal.Reads as refusal-reads
-use Rattle.anchors_read.proofs.roomy.Reads as roomy-reads
+use Rattle.anchors_parts.proofs.rooms.roomy.Reads as roomy-reads
 
 -- the buffers as they were lent
 abbrev lent : tie.Start → AnchorBuffers

@@ -11,23 +11,23 @@ use Rattle.graph.specs.Reading.{graphOf}
 use Rattle.graph.proofs.Faulty.{graph-fault}
 use Rattle.anchors.specs.AnchorBytes.{encodeAnchors}
 use Rattle.anchors.specs.AnchorEntries.{AnchorsGiven, roomyAnchors}
-use Rattle.anchors_check.specs.LabelTables.{LabelsAt, contentOf}
+use Rattle.anchors_parts.specs.LabelTables.{LabelsAt, contentOf}
 use Rattle.anchors.proofs.AnchorRooms.{full-buffers}
 use Rattle.anchors_check.proofs.BothLaws.{checked-fault, graph-told}
-use Rattle.anchors_write.specs.InPlaces.{setIn}
-use Rattle.anchors_write.specs.FirstFaults.{contentFault}
-use Rattle.anchors_write.proofs.ContentSteps.{content-ranged}
-use Rattle.anchors_write.proofs.Sizing.{bytes-length}
+use Rattle.anchors_content.specs.InPlaces.{setIn}
+use Rattle.anchors_content.specs.FirstFaults.{contentFault}
+use Rattle.anchors_content.proofs.ContentSteps.{content-ranged}
+use Rattle.anchors_content.proofs.Sizing.{bytes-length}
 use Rattle.anchors_write.proofs.Promised.{small-written, graph-written, content-written, long-written, short-written, done-written}
 use borrow.Author.Needs.{needs}
 use Rattle.anchors_write.proofs.write_anchors.Statement.{statement}
 use Rattle.anchors_write.proofs.write_anchors.Tie as tie
 use Rattle.anchors_write.proofs.write_anchors.Reads as reads
 use Rattle.anchors_write.proofs.write_anchors.Lts as lts
-use Rattle.anchors_write.proofs.bytes.anchors_size.Reads as anchors-size-reads
-use Rattle.anchors_write.proofs.bytes.put_anchors.Reads as put-anchors-reads
-use Rattle.anchors_write.proofs.content.content_fault.Reads as content-fault-reads
-use Rattle.anchors_write.proofs.full_buffers.Reads as full-buffers-reads
+use Rattle.anchors_content.proofs.bytes.anchors_size.Reads as anchors-size-reads
+use Rattle.anchors_content.proofs.bytes.put_anchors.Reads as put-anchors-reads
+use Rattle.anchors_content.proofs.content.content_fault.Reads as content-fault-reads
+use Rattle.anchors_parts.proofs.rooms.roomy.Reads as roomy-reads
 use Rattle.anchors_write.proofs.refusal.Reads as refusal-reads
 use Rattle.graph_check.proofs.check_graph.Reads as check-graph-reads
 
@@ -35,13 +35,13 @@ use Rattle.graph_check.proofs.check_graph.Reads as check-graph-reads
 abbrev given : tie.Start → AnchorsGiven
 given s = record { r = s .args .r; n = s .args .n; buffers = record { letters = now (s .args .letters); anchors = now (s .args .anchors) } }
 
-abbrev start : tie.After-full-buffers → tie.Start
+abbrev start : tie.After-roomy → tie.Start
 start c = c .before .before .before .before .before
 
 -- what the room test says
-room : (c : tie.After-full-buffers) → roomyAnchors (given (start c) .buffers) ≡ c .full-buffers .result
+room : (c : tie.After-roomy) → roomyAnchors (given (start c) .buffers) ≡ c .roomy .result
 unfolding roomyAnchors
-room c = sym (c .full-buffers .ensures)
+room c = sym (c .roomy .ensures)
 
 roomed : (c : tie.Else1) → roomyAnchors (given (start (c .before)) .buffers) ≡ true
 roomed c = room (c .before) ∙ not-false _ (c .if1 .left)
@@ -84,8 +84,8 @@ measured c =
     c .anchors-size .ensures
     ∙ sym (bytes-length (given (size-start c)) (omega (arith, ranged k, sizes (k .before .before))) (omega (arith, ranged k, sizes (k .before .before))))
 
-full-buffers-requires : tie.Need-full-buffers-requires
-full-buffers-requires c κs = search needs
+roomy-requires : tie.Need-roomy-requires
+roomy-requires c κs = search needs
 
 refusal-requires : tie.Need-refusal-requires
 refusal-requires c κs = search needs
@@ -180,7 +180,7 @@ pub write-anchors-spec : {M : Type 1} → statement M
 write-anchors-spec =
     tie.close
     (tie.spec
-    full-buffers-requires
+    roomy-requires
     refusal-requires
     returns
     check-graph-requires

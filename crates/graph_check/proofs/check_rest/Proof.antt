@@ -4,7 +4,7 @@ use Rattle.wire.specs.Sizes.{mostPaths}
 use Rattle.wire.specs.declared.numbers.Number.the-variants.{Value}
 use Rattle.graph_parts.specs.Answers.{countAt}
 use Rattle.graph_check.specs.Checked.{checkedOf}
-use Rattle.graph_parts.proofs.Marking.{marks-start}
+use Rattle.graph_paths.proofs.Marking.{marks-start}
 use Rattle.graph_parts.proofs.Passing.{answered-fault}
 use Rattle.graph_check.proofs.Fronting.{told, Covered, covered, head-edges, head-few, rest-stop, rest-fault, rest-off, rest-left, rest-good}
 use borrow.Author.Needs.{needs}
@@ -13,9 +13,9 @@ use Rattle.graph_check.proofs.check_rest.Tie as tie
 use Rattle.graph_check.proofs.check_rest.Reads as reads
 use Rattle.graph_check.proofs.check_rest.Lts as lts
 use Rattle.graph_parts.proofs.counts.read_count.Reads as read-count-reads
-use Rattle.graph_parts.proofs.marks.all_marked.Reads as all-marked-reads
-use Rattle.graph_parts.proofs.marks.no_marks.Reads as no-marks-reads
-use Rattle.graph_parts.proofs.paths.check_paths.Reads as check-paths-reads
+use Rattle.graph_paths.proofs.marks.all_marked.Reads as all-marked-reads
+use Rattle.graph_paths.proofs.marks.no_marks.Reads as no-marks-reads
+use Rattle.graph_paths.proofs.paths.check_paths.Reads as check-paths-reads
 use Rattle.graph_check.proofs.refused.Reads as refused-reads
 
 -- K was read

@@ -12,11 +12,11 @@ use Rattle.graph_content.proofs.content_fault.Statement.{statement}
 use Rattle.graph_content.proofs.content_fault.Tie as tie
 use Rattle.graph_content.proofs.content_fault.Reads as reads
 use Rattle.graph_content.proofs.content_fault.Lts as lts
-use Rattle.graph_parts.proofs.rules.range_fault.Reads as range-fault-reads
+use Rattle.graph_rules.proofs.rules.range_fault.Reads as range-fault-reads
 use Rattle.graph_content.proofs.content.edges_fault.Reads as edges-fault-reads
 use Rattle.graph_content.proofs.content.labels_fault.Reads as labels-fault-reads
 use Rattle.graph_content.proofs.content.paths_fault.Reads as paths-fault-reads
-use Rattle.graph_content.proofs.cover.cover_fault.Reads as cover-fault-reads
+use Rattle.graph_content.proofs.covered.cover_fault.Reads as cover-fault-reads
 
 -- helpers
 -- n, m and K are in range where they have no fault, and the edges rise

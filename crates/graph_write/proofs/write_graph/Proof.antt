@@ -9,7 +9,7 @@ use Rattle.graph.specs.Encode.{encodeGraph}
 use Rattle.graph.specs.Entries.{Given}
 use Rattle.graph_content.specs.Used.{givenOf, graphIn}
 use Rattle.graph_content.specs.Faults.{contentFault}
-use Rattle.graph_write.specs.Answer.{fullSizes}
+use Rattle.graph.specs.Entries.{roomFor}
 use Rattle.graph_write.proofs.Replying.{sizes-full, reply-small, reply-fault, reply-long, reply-short, reply-good, written-not, written-all}
 use borrow.Author.Needs.{needs}
 use Rattle.graph_write.proofs.write_graph.Statement.{statement}
@@ -17,7 +17,7 @@ use Rattle.graph_write.proofs.write_graph.Tie as tie
 use Rattle.graph_write.proofs.write_graph.Reads as reads
 use Rattle.graph_write.proofs.write_graph.Lts as lts
 use Rattle.graph_content.proofs.content_fault.Reads as content-fault-reads
-use Rattle.graph_write.proofs.full_buffers.Reads as full-buffers-reads
+use Rattle.graph_rules.proofs.rooms.roomy.Reads as roomy-reads
 use Rattle.graph_bytes.proofs.graph_size.Reads as graph-size-reads
 use Rattle.graph_bytes.proofs.put_graph.Reads as put-graph-reads
 use Rattle.graph_write.proofs.refusal.Reads as refusal-reads
@@ -33,8 +33,8 @@ wrote b = record { number = 0; file = 0; place = 0; bytes = b }
 
 -- the buffers have full size
 full : (c : tie.Else1)
-    → fullSizes (length (c .before .before .before .before .before .before .before .before .args .letters .now)) (length (c .before .before .before .before .before .before .before .before .args .lengths .now)) (length (c .before .before .before .before .before .before .before .before .args .edges .now)) (length (c .before .before .before .before .before .before .before .before .args .paths .now)) (length (c .before .before .before .before .before .before .before .before .args .counts .now)) ≡ true
-full c = sym (c .before .full-buffers .ensures) ∙ not-false _ (c .if1 .left)
+    → roomFor (length (c .before .before .before .before .before .before .before .before .args .letters .now)) (length (c .before .before .before .before .before .before .before .before .args .lengths .now)) (length (c .before .before .before .before .before .before .before .before .args .edges .now)) (length (c .before .before .before .before .before .before .before .before .args .paths .now)) (length (c .before .before .before .before .before .before .before .before .args .counts .now)) ≡ true
+full c = sym (c .before .roomy .ensures) ∙ not-false _ (c .if1 .left)
 
 -- the content has no fault
 none : (c : tie.Else2) → contentFault (content (c .before .before .before .before .before .before .before .before .before .before)) ≡ 0
@@ -45,8 +45,8 @@ none c =
 -- end helpers
 
 -- src/lib.rt:191:9
-full-buffers-requires : tie.Need-full-buffers-requires
-full-buffers-requires c κs = search needs
+roomy-requires : tie.Need-roomy-requires
+roomy-requires c κs = search needs
 
 -- src/lib.rt:192:9
 refusal-requires : tie.Need-refusal-requires
@@ -56,7 +56,7 @@ refusal-requires c κs = search needs
 returns : tie.Need-returns
 returns c =
     let s = content (c .before .before .before .before .before .before .before .before .before) in
-    written-not s (length (c .before .before .before .before .before .before .before .before .before .args .out .now)) _ _ _ _ _ (reply-small s (length (c .before .before .before .before .before .before .before .before .before .args .out .now)) (sym (c .before .before .full-buffers .ensures) ∙ not-true _ (c .before .if1 .taken))) (c .refusal .ensures)
+    written-not s (length (c .before .before .before .before .before .before .before .before .before .args .out .now)) _ _ _ _ _ (reply-small s (length (c .before .before .before .before .before .before .before .before .before .args .out .now)) (sym (c .before .before .roomy .ensures) ∙ not-true _ (c .before .if1 .taken))) (c .refusal .ensures)
 
 -- src/lib.rt:194:9
 content-fault-requires : tie.Need-content-fault-requires
@@ -127,7 +127,7 @@ pub write-graph-spec : {M : Type 1} → statement M
 write-graph-spec =
     tie.close
     (tie.spec
-    full-buffers-requires
+    roomy-requires
     refusal-requires
     returns
     content-fault-requires

@@ -6,13 +6,10 @@ use Rattle.graphwrite_cases.proofs.set_large.Statement.{statement}
 use Rattle.graphwrite_cases.proofs.set_large.Tie as tie
 
 abbrev Inv-loop : tie.InvT-loop
-Inv-loop letters lengths₀ edges₀ paths₀ counts longer v₀ t8 lengths edges paths v = (v ≤ 1024) × (length lengths ≡ length lengths₀) × (length edges ≡ length edges₀) × (length paths ≡ length paths₀)
+Inv-loop lengths₀ edges₀ paths₀ longer v₀ lengths edges paths v = (v ≤ 1024) × (length lengths ≡ length lengths₀) × (length edges ≡ length edges₀) × (length paths ≡ length paths₀)
 
 abbrev μ-loop : tie.MeasureT-loop
-μ-loop letters lengths₀ edges₀ paths₀ counts longer v₀ t8 lengths edges paths v = 1024 - v
-
-set-every-requires : tie.Need-set-every-requires Inv-loop μ-loop
-set-every-requires c κs = search needs
+μ-loop lengths₀ edges₀ paths₀ longer v₀ lengths edges paths v = 1024 - v
 
 loop-holds : tie.Need-loop-holds Inv-loop μ-loop
 loop-holds c = search needs
@@ -41,12 +38,6 @@ loop-less c = search needs
 loop-again : tie.Need-loop-again Inv-loop μ-loop
 loop-again c = search needs
 
-slice-aggregate-set-numbers : tie.Need-slice-aggregate-set-numbers Inv-loop μ-loop
-slice-aggregate-set-numbers c = search needs
-
-set-numbers-requires : tie.Need-set-numbers-requires Inv-loop μ-loop
-set-numbers-requires c κs = search needs
-
 same-length : tie.Need-same-length Inv-loop μ-loop
 same-length c = search needs
 
@@ -55,12 +46,6 @@ same-length-2 c = search needs
 
 same-length-3 : tie.Need-same-length-3 Inv-loop μ-loop
 same-length-3 c = search needs
-
-same-length-4 : tie.Need-same-length-4 Inv-loop μ-loop
-same-length-4 c = search needs
-
-same-length-5 : tie.Need-same-length-5 Inv-loop μ-loop
-same-length-5 c = search needs
 
 returns : tie.Need-returns Inv-loop μ-loop
 returns c = search needs
@@ -71,7 +56,6 @@ set-large-spec =
     (tie.spec
     Inv-loop
     μ-loop
-    set-every-requires
     loop-holds
     cast-set-number
     length-of-requires
@@ -81,11 +65,7 @@ set-large-spec =
     add-v
     loop-less
     loop-again
-    slice-aggregate-set-numbers
-    set-numbers-requires
     same-length
     same-length-2
     same-length-3
-    same-length-4
-    same-length-5
     returns)

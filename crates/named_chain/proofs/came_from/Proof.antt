@@ -4,7 +4,7 @@ use mathlib.Core.Path.{refl, sym, _∙_, subst}
 use native.Mathlib.Omega.{arith}
 use borrow.Author.Needs.{needs}
 use Rattle.rounds.specs.Table.{entry}
-use Rattle.steps.specs.Pairs.{RowFits}
+use Rattle.pair_step.specs.Pairs.{RowFits}
 use Rattle.named_chain.specs.Returning.{Lowest, GivesIn}
 use Rattle.steps.specs.Setting.{Setting, anchorOf, stepOf, settingOf}
 use Rattle.steps.proofs.RowLaws.{tables-prepared, tables-row}

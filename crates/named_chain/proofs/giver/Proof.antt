@@ -2,7 +2,7 @@ use Prim.Native.Nat.{_-_, _≤_, _<_}
 use mathlib.Core.Logic.{⊎-elim}
 use native.Mathlib.Omega.{arith}
 use lib.ListN.{getD}
-use Rattle.steps.specs.Pairs.{Ends}
+use Rattle.pair_step.specs.Pairs.{Ends}
 use Rattle.named_chain.specs.Returning.{GivesIn}
 use Rattle.named_chain.proofs.BackLaws.{step-small, Passed, passed-none, passed-more, lowest-here, lowest-none, gives-at, gives-in}
 use Rattle.named_chain.proofs.giver.Statement.{statement}

@@ -2,13 +2,13 @@ use Prim.Native.Nat.{ℕ, _+_, _-_, _≤_}
 use mathlib.Core.Logic.{⊎-elim}
 use mathlib.Core.Path.{_≡_, subst}
 use native.Mathlib.Omega.{arith}
-use Rattle.named_chain.specs.Returning.{TopOf}
+use Rattle.chain.specs.Named.{Top}
 use Rattle.named_chain.proofs.BackLaws.{placed, top-one, top-more, top-kept}
 use Rattle.named_chain.proofs.top.Statement.{statement}
 use Rattle.named_chain.proofs.top.Tie as tie
 
 abbrev Inv-loop : tie.InvT-loop
-Inv-loop scores n best₀ i₀ best i = (1 ≤ i) × (i ≤ n) × TopOf i scores (best + 1)
+Inv-loop scores n best₀ i₀ best i = (1 ≤ i) × (i ≤ n) × Top i scores (best + 1)
 
 abbrev μ-loop : tie.MeasureT-loop
 μ-loop scores n best₀ i₀ best i = n - i
@@ -57,7 +57,7 @@ returns c =
     let a = c .before .before .args in
     let l = c .before .loop in
     let e : l .i ≡ a .n = omega arith in
-    subst (λ (k : ℕ). TopOf k (a .scores .now) (l .best + 1)) e (l .inv .2)
+    subst (λ (k : ℕ). Top k (a .scores .now) (l .best + 1)) e (l .inv .2)
 
 pub top-spec : {M : Type 1} → statement M
 top-spec =

@@ -1,5 +1,5 @@
 use mathlib.Core.Path.{refl}
-use Rattle.tables.specs.Made.{zeros}
+use Rattle.tables_make.specs.Made.{zeros}
 use Rattle.placing.proofs.anchor_number_zeros.Statement.{statement}
 use Rattle.placing.proofs.anchor_number_zeros.Tie as tie
 use Rattle.placing.proofs.anchor_number_zeros.Reads as reads

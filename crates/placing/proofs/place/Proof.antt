@@ -11,10 +11,10 @@ use Rattle.graph_read.proofs.Replying.{Full}
 use Rattle.anchors.specs.Anchors.{AnchorSet}
 use Rattle.anchors.specs.AnchorEntries.{AnchorBuffers, roomyAnchors}
 use Rattle.chain.specs.ChainEntries.{ChainBuffers, roomyChain}
-use Rattle.tables.proofs.Rooms.{room-long}
+use Rattle.tables_make.proofs.Rooms.{room-long}
 use Rattle.anchors_read.specs.declared.AnchorsAnswer.{AnchorsAnswer}
-use Rattle.placing.specs.Answer.{IsBy}
-use Rattle.placing.specs.Lying.{Given}
+use Rattle.placing_over.specs.Engines.{IsBy}
+use Rattle.placing_over.specs.Lying.{Given}
 use Rattle.placing.proofs.Reading.{full-anchors, BothAccepted, both-zero, both-some, given-read}
 use Rattle.placing.proofs.Answering.{full-chain, small-answered, refused-answered, accepted-answered}
 use borrow.Author.Needs.{needs}
@@ -28,11 +28,11 @@ use Rattle.placing.proofs.anchor_number_zeros.Reads as anchor-number-ze
 use Rattle.placing.proofs.place_given.Reads as place-given-reads
 use Rattle.placing.proofs.refusal.Reads as refusal-reads
 use Rattle.placing.proofs.roomy.Reads as roomy-reads
-use Rattle.tables.proofs.cell_zeros.Reads as cell-zeros-reads
-use Rattle.tables.proofs.letter_zeros.Reads as letter-zeros-reads
-use Rattle.tables.proofs.number_zeros.Reads as number-zeros-reads
-use Rattle.tables.proofs.path_zeros.Reads as path-zeros-reads
-use Rattle.tables.proofs.vertex_zeros.Reads as vertex-zeros-reads
+use Rattle.tables_make.proofs.make.cell_zeros.Reads as cell-zeros-reads
+use Rattle.tables_make.proofs.make.letter_zeros.Reads as letter-zeros-reads
+use Rattle.tables_make.proofs.make.number_zeros.Reads as number-zeros-reads
+use Rattle.tables_make.proofs.make.path_zeros.Reads as path-zeros-reads
+use Rattle.tables_make.proofs.make.vertex_zeros.Reads as vertex-zeros-reads
 
 -- the lent buffers
 abbrev lent : tie.Start → ChainBuffers

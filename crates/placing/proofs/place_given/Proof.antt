@@ -2,15 +2,15 @@ use Prim.Native.Nat.{ℕ, _+_, _-_, _*_, _≤_, _<_}
 use mathlib.Core.Path.{_≡_, refl, sym, ap, _∙_, subst}
 use native.Mathlib.Omega.{arith}
 use lib.ListN.{length, getD, take, drop}
-use Rattle.tables.proofs.Rooms.{front-long}
+use Rattle.tables_make.proofs.Rooms.{front-long}
 use borrow.Author.Needs.{needs}
 use Rattle.placing.proofs.place_given.Statement.{statement}
 use Rattle.placing.proofs.place_given.Tie as tie
 use Rattle.placing.proofs.place_given.Reads as reads
 use Rattle.placing.proofs.place_given.Lts as lts
 use Rattle.placing.proofs.place_tabled.Reads as place-tabled-reads
-use Rattle.tables.proofs.cell_zeros.Reads as cell-zeros-reads
-use Rattle.tables.proofs.vertex_zeros.Reads as vertex-zeros-reads
+use Rattle.tables_make.proofs.make.cell_zeros.Reads as cell-zeros-reads
+use Rattle.tables_make.proofs.make.vertex_zeros.Reads as vertex-zeros-reads
 
 cell-zeros-requires : tie.Need-cell-zeros-requires
 cell-zeros-requires c κs = search needs

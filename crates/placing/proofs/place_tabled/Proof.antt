@@ -2,15 +2,15 @@ use Prim.Native.Nat.{ℕ, _+_, _-_, _*_, _≤_, _<_}
 use mathlib.Core.Path.{_≡_, refl, sym, ap, _∙_, subst}
 use native.Mathlib.Omega.{arith}
 use lib.ListN.{length, getD, take, drop}
-use Rattle.tables.specs.Made.{made}
-use Rattle.placing.proofs.Settings.{given-over}
+use Rattle.tables_make.specs.Made.{made}
+use Rattle.placing_over.proofs.Settings.{given-over}
 use borrow.Author.Needs.{needs}
 use Rattle.placing.proofs.place_tabled.Statement.{statement}
 use Rattle.placing.proofs.place_tabled.Tie as tie
 use Rattle.placing.proofs.place_tabled.Reads as reads
 use Rattle.placing.proofs.place_tabled.Lts as lts
-use Rattle.placing.proofs.over.place_over.Reads as place-over-reads
-use Rattle.tables.proofs.make_tables.Reads as make-tables-reads
+use Rattle.placing_over.proofs.over.place_over.Reads as place-over-reads
+use Rattle.tables_make.proofs.make.make_tables.Reads as make-tables-reads
 
 make-tables-requires : tie.Need-make-tables-requires
 make-tables-requires c κs = search needs

@@ -5,7 +5,7 @@ use mathlib.Core.Logic.{inr}
 use native.Mathlib.Omega.{arith}
 use lib.ListN.{set}
 use borrow.Author.Needs.{needs}
-use Rattle.steps.specs.Pairs.{bestIn, RowFits}
+use Rattle.pair_step.specs.Pairs.{bestIn, RowFits}
 use Rattle.plain_engine.specs.Planning.{takes, takenAt}
 use Rattle.steps.specs.Setting.{Setting, anchorOf, settingOf}
 use Rattle.steps.proofs.RowLaws.{tables-prepared, tables-row}

@@ -1,7 +1,7 @@
 use lib.Seq.{length-take-le, length-front}
 use Rattle.wire.specs.Sizes.{fullTable, fullClosed}
-use Rattle.tables.specs.Made.{made}
-use Rattle.tables.proofs.Meaning.{holds-held}
+use Rattle.tables_make.specs.Made.{made}
+use Rattle.tables_make.proofs.Meaning.{holds-held}
 use Rattle.tables.proofs.Tabling.{laid-part, tabled}
 use denote.Ref.{now}
 use lib.ListN.{length, getD, set, take, drop}
@@ -13,7 +13,7 @@ use Rattle.tables.proofs.lay_tables.Statement.{statement}
 use Rattle.tables.proofs.lay_tables.Tie as tie
 use Rattle.tables.proofs.lay_tables.Reads as reads
 use Rattle.tables.proofs.lay_tables.Lts as lts
-use Rattle.tables.proofs.make_tables.Reads as make-tables-reads
+use Rattle.tables_make.proofs.make.make_tables.Reads as make-tables-reads
 use Rattle.wire.proofs.lent.zero_rest_u32.Reads as zero-rest-u32-reads
 
 -- there are few vertices

@@ -6,7 +6,7 @@ use Rattle.graph_read.proofs.Replying.{Full}
 use Rattle.graph_read.proofs.Outcome.{Accepts, number-zero, number-some}
 use Rattle.cover.specs.TableEntries.{TableBuffers, roomyTables}
 use Rattle.table_rounds.specs.Held.{Holds}
-use Rattle.tables.proofs.Rooms.{room-long}
+use Rattle.tables_make.proofs.Rooms.{room-long}
 use Rattle.tables.proofs.Tabling.{small-answered, refused-answered, accepted-answered}
 use Rattle.tables.proofs.Accepted.{full-tables, full-roomy, same-reply, accepted-holds, accepted-paths}
 use denote.Ref.{now}
@@ -20,14 +20,14 @@ use Rattle.tables.proofs.tables.Tie as tie
 use Rattle.tables.proofs.tables.Reads as reads
 use Rattle.tables.proofs.tables.Lts as lts
 use Rattle.graph_read.proofs.read_graph.Reads as read-graph-reads
-use Rattle.tables.proofs.cell_zeros.Reads as cell-zeros-reads
+use Rattle.tables_make.proofs.make.cell_zeros.Reads as cell-zeros-reads
 use Rattle.tables.proofs.lay_tables.Reads as lay-tables-reads
-use Rattle.tables.proofs.letter_zeros.Reads as letter-zeros-reads
-use Rattle.tables.proofs.number_zeros.Reads as number-zeros-reads
-use Rattle.tables.proofs.path_zeros.Reads as path-zeros-reads
+use Rattle.tables_make.proofs.make.letter_zeros.Reads as letter-zeros-reads
+use Rattle.tables_make.proofs.make.number_zeros.Reads as number-zeros-reads
+use Rattle.tables_make.proofs.make.path_zeros.Reads as path-zeros-reads
 use Rattle.tables.proofs.refusal.Reads as refusal-reads
 use Rattle.tables.proofs.roomy.Reads as roomy-reads
-use Rattle.tables.proofs.vertex_zeros.Reads as vertex-zeros-reads
+use Rattle.tables_make.proofs.make.vertex_zeros.Reads as vertex-zeros-reads
 
 -- the lent buffers
 abbrev lent : tie.Start → TableBuffers

@@ -1,6 +1,6 @@
 use mathlib.Core.Path.{ap}
 use borrow.Author.Needs.{needs}
-use Rattle.anchors_check.specs.declared.view.Viewed.{Viewed}
+use Rattle.anchors_view.specs.declared.view.Viewed.{Viewed}
 use Rattle.toadtrellis.specs.declared.ToadPart.{ToadPart}
 use Rattle.toadtrellis.proofs.toad_letters.Statement.{statement}
 use Rattle.toadtrellis.proofs.toad_letters.Tie as tie

@@ -3,15 +3,15 @@ use mathlib.Core.Path.{_∙_}
 use native.Mathlib.Omega.{arith}
 use Rattle.wire.specs.Sizes.{fullAnchors}
 use Rattle.wire.proofs.Laying.{laid-after}
-use Rattle.graph_read.specs.Filling.{oneNumber, numbersIn}
-use Rattle.graph_read.proofs.Items.{length-items}
+use Rattle.graph_fill.specs.Filling.{oneNumber, numbersIn}
+use Rattle.graph_fill.proofs.Items.{length-items}
 use Rattle.anchors.specs.Anchors.{perAnchor}
 use borrow.Author.Needs.{needs}
 use Rattle.anchors_read.proofs.fills.fill_anchors.Statement.{statement}
 use Rattle.anchors_read.proofs.fills.fill_anchors.Tie as tie
 use Rattle.anchors_read.proofs.fills.fill_anchors.Reads as reads
 use Rattle.anchors_read.proofs.fills.fill_anchors.Lts as lts
-use Rattle.graph_read.proofs.numbers.take_numbers.Reads as take-numbers-reads
+use Rattle.graph_fill.proofs.numbers.take_numbers.Reads as take-numbers-reads
 use Rattle.wire.proofs.lent.zero_rest_u32.Reads as zero-rest-u32-reads
 
 mul-take-numbers : tie.Need-mul-take-numbers

@@ -11,7 +11,7 @@ use Rattle.graph_content.proofs.content.edges_fault.Statement.{statemen
 use Rattle.graph_content.proofs.content.edges_fault.Tie as tie
 use Rattle.graph_content.proofs.content.edges_fault.Reads as reads
 use Rattle.graph_content.proofs.content.edges_fault.Lts as lts
-use Rattle.graph_parts.proofs.rules.edge_fault.Reads as edge-fault-reads
+use Rattle.graph_rules.proofs.rules.edge_fault.Reads as edge-fault-reads
 
 abbrev Inv-loop : tie.InvT-loop
 Inv-loop n m edges from₀ to₀ i₀ from to i = edgesFault n m 0 noEdge edges ≡ edgesFault n (m - i) i (record { from = from; to = to }) edges

@@ -11,7 +11,7 @@ use Rattle.graph_content.proofs.content.labels_fault.Statement.{stateme
 use Rattle.graph_content.proofs.content.labels_fault.Tie as tie
 use Rattle.graph_content.proofs.content.labels_fault.Reads as reads
 use Rattle.graph_content.proofs.content.labels_fault.Lts as lts
-use Rattle.graph_parts.proofs.rules.length_fault.Reads as length-fault-reads
+use Rattle.graph_rules.proofs.rules.length_fault.Reads as length-fault-reads
 use Rattle.graph_content.proofs.content.letters_fault.Reads as letters-fault-reads
 use Rattle.graph_content.proofs.wide.Reads as wide-reads
 

@@ -8,7 +8,7 @@ use Rattle.graph_content.proofs.content.letters_fault.Statement.{statem
 use Rattle.graph_content.proofs.content.letters_fault.Tie as tie
 use Rattle.graph_content.proofs.content.letters_fault.Reads as reads
 use Rattle.graph_content.proofs.content.letters_fault.Lts as lts
-use Rattle.graph_parts.proofs.rules.letter_fault.Reads as letter-fault-reads
+use Rattle.graph_rules.proofs.rules.letter_fault.Reads as letter-fault-reads
 
 abbrev Inv-loop : tie.InvT-loop
 Inv-loop letters start end at₀ at = lettersFault (end - start) letters start ≡ lettersFault (end - at) letters at

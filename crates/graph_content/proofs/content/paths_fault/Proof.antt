@@ -12,7 +12,7 @@ use Rattle.graph_content.proofs.content.paths_fault.Statement.{statemen
 use Rattle.graph_content.proofs.content.paths_fault.Tie as tie
 use Rattle.graph_content.proofs.content.paths_fault.Reads as reads
 use Rattle.graph_content.proofs.content.paths_fault.Lts as lts
-use Rattle.graph_parts.proofs.rules.range_fault.Reads as range-fault-reads
+use Rattle.graph_rules.proofs.rules.range_fault.Reads as range-fault-reads
 use Rattle.graph_content.proofs.content.vertices_fault.Reads as vertices-fault-reads
 use Rattle.graph_content.proofs.wide.Reads as wide-reads
 

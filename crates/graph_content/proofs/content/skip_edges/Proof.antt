@@ -9,7 +9,7 @@ use Rattle.graph_content.proofs.content.skip_edges.Statement.{statement
 use Rattle.graph_content.proofs.content.skip_edges.Tie as tie
 use Rattle.graph_content.proofs.content.skip_edges.Reads as reads
 use Rattle.graph_content.proofs.content.skip_edges.Lts as lts
-use Rattle.graph_parts.proofs.rules.edge_below.Reads as edge-below-reads
+use Rattle.graph_rules.proofs.rules.edge_below.Reads as edge-below-reads
 
 abbrev Inv-loop : tie.InvT-loop
 Inv-loop m edges start from to i₀ i = Passed m edges start from to i

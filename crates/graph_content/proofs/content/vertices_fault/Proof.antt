@@ -8,7 +8,7 @@ use Rattle.graph_content.proofs.content.vertices_fault.Statement.{state
 use Rattle.graph_content.proofs.content.vertices_fault.Tie as tie
 use Rattle.graph_content.proofs.content.vertices_fault.Reads as reads
 use Rattle.graph_content.proofs.content.vertices_fault.Lts as lts
-use Rattle.graph_parts.proofs.rules.rise_fault.Reads as rise-fault-reads
+use Rattle.graph_rules.proofs.rules.rise_fault.Reads as rise-fault-reads
 use Rattle.graph_content.proofs.content.edge_is.Reads as edge-is-reads
 use Rattle.graph_content.proofs.content.skip_edges.Reads as skip-edges-reads
 

@@ -7,7 +7,7 @@ use Rattle.graph_parts.proofs.counts.read_count.Statement.{statement}
 use Rattle.graph_parts.proofs.counts.read_count.Tie as tie
 use Rattle.graph_parts.proofs.counts.read_count.Reads as reads
 use Rattle.graph_parts.proofs.counts.read_count.Lts as lts
-use Rattle.graph_parts.proofs.rules.range_fault.Reads as range-fault-reads
+use Rattle.graph_rules.proofs.rules.range_fault.Reads as range-fault-reads
 use Rattle.wire.proofs.numbers.read_number.Reads as read-number-reads
 
 read-number-requires : tie.Need-read-number-requires

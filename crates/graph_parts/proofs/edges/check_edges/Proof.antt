@@ -11,7 +11,7 @@ use Rattle.graph_parts.proofs.edges.check_edges.Statement.{statement}
 use Rattle.graph_parts.proofs.edges.check_edges.Tie as tie
 use Rattle.graph_parts.proofs.edges.check_edges.Reads as reads
 use Rattle.graph_parts.proofs.edges.check_edges.Lts as lts
-use Rattle.graph_parts.proofs.rules.edge_fault.Reads as edge-fault-reads
+use Rattle.graph_rules.proofs.rules.edge_fault.Reads as edge-fault-reads
 use Rattle.wire.proofs.numbers.read_number.Reads as read-number-reads
 
 abbrev Inv-loop : tie.InvT-loop

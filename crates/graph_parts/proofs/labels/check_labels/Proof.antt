@@ -12,7 +12,7 @@ use Rattle.graph_parts.proofs.labels.check_labels.Tie as tie
 use Rattle.graph_parts.proofs.labels.check_labels.Reads as reads
 use Rattle.graph_parts.proofs.labels.check_labels.Lts as lts
 use Rattle.graph_parts.proofs.labels.check_letters.Reads as check-letters-reads
-use Rattle.graph_parts.proofs.rules.length_fault.Reads as length-fault-reads
+use Rattle.graph_rules.proofs.rules.length_fault.Reads as length-fault-reads
 use Rattle.wire.proofs.numbers.read_number.Reads as read-number-reads
 
 abbrev Inv-loop : tie.InvT-loop

@@ -10,7 +10,7 @@ use Rattle.graph_parts.proofs.labels.check_letters.Statement.{statement
 use Rattle.graph_parts.proofs.labels.check_letters.Tie as tie
 use Rattle.graph_parts.proofs.labels.check_letters.Reads as reads
 use Rattle.graph_parts.proofs.labels.check_letters.Lts as lts
-use Rattle.graph_parts.proofs.rules.letter_fault.Reads as letter-fault-reads
+use Rattle.graph_rules.proofs.rules.letter_fault.Reads as letter-fault-reads
 
 abbrev Inv-loop : tie.InvT-loop
 Inv-loop file len start at₀ left₀ at left =

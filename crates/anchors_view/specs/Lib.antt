@@ -1,0 +1,2 @@
+-- A view as the code holds it.
+pub mod Viewed

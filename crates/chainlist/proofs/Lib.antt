@@ -1,2 +1,0 @@
--- The laws of the listing program.
-pub mod Listing

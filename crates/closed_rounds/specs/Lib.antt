@@ -1,0 +1,2 @@
+-- The definitions of the closed walks by the rounds.
+pub mod Closing

@@ -1,0 +1,2 @@
+-- What lies in a buffer once a section is laid into it.
+pub mod Filling

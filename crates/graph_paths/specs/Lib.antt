@@ -1,0 +1,5 @@
+-- The definitions that the check of the paths goes by: the search for a step, the marks, and what is answered.
+pub mod Steps
+pub mod Marks
+pub mod PathAnswers
+pub mod Shorts

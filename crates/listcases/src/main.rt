@@ -1,0 +1,94 @@
+// Cases of the listing, over the files of document 01's chapters "Listing" and "Checked by hand". After a case's name stands its listing, byte for
+// byte. The files' bytes are made by hand from document 01's words, and so is what must be written.
+use listing::list;
+use listing::listing_room;
+
+// Writes text to standard output.
+fn say(text: &[u8]) {
+    io::write_all(1, text);
+}
+
+// Writes the first n bytes.
+fn say_front(bytes: &[u8], n: usize) {
+    if n <= bytes.len() {
+        say(&bytes[..n]);
+    }
+}
+
+// A case: its name, and the listing of two files.
+fn case(name: &[u8], graph: &[u8], file: &[u8]) {
+    let mut out = listing_room();
+    let n = list(graph, file, &mut out);
+    say(name);
+    say(b"\n");
+    say_front(&out, n);
+}
+
+// Graph G1 with an anchor file.
+fn on_g1(name: &[u8], file: &[u8]) {
+    case(
+        name,
+        b"\x01\x04\x02AC\x01G\x02TT\x02CA\x04\x01\x02\x01\x03\x02\x04\x03\x04\x02\x03\x01\x02\x04\x03\x01\x03\x04",
+        file,
+    );
+}
+
+// Graph G2 with an anchor file.
+fn on_g2(name: &[u8], file: &[u8]) {
+    case(
+        name,
+        b"\x01\x03\x01A\x02CC\x01G\x03\x01\x02\x02\x03\x03\x02\x01\x03\x01\x02\x03",
+        file,
+    );
+}
+
+// Accepted files.
+fn accepted_cases() {
+    on_g1(
+        b"G1 and its anchors",
+        b"\x02\x06ACTTCA\x03\x01\x01\x01\x02\x02\x03\x01\x03\x02\x02\x04\x01\x05\x02\x02",
+    );
+    on_g1(
+        b"first and third anchor",
+        b"\x02\x06ACTTCA\x02\x01\x01\x01\x02\x02\x04\x01\x05\x02\x02",
+    );
+    on_g1(
+        b"a first weight of 65535",
+        b"\x02\x06ACTTCA\x03\x01\x01\x01\x02\xFF\xFF\x03\x03\x01\x03\x02\x02\x04\x01\x05\x02\x02",
+    );
+    on_g1(b"no anchors", b"\x02\x06ACTTCA\x00");
+    on_g2(
+        b"CCGCC over G2",
+        b"\x02\x05CCGCC\x03\x02\x01\x01\x02\x02\x02\x01\x04\x02\x02\x03\x01\x03\x01\x01",
+    );
+}
+
+// Refused files.
+fn refused_cases() {
+    case(b"both files empty", b"", b"");
+    on_g1(b"anchor file empty", b"");
+    on_g1(b"a byte that is no letter", b"\x02\x06ACNTCA\x00");
+    on_g1(b"bytes left over", b"\x02\x06ACTTCA\x00\x00");
+    case(
+        b"one byte less",
+        b"\x01\x01\x01A\x00\x01\x01",
+        b"\x02\x01A\x00",
+    );
+    case(
+        b"a vertex on no path",
+        b"\x01\x02\x01A\x01C\x00\x01\x01\x01",
+        b"",
+    );
+}
+
+// A graph file of 65,537 bytes.
+fn long_case() {
+    let long = [1u8; 65537];
+    case(b"graph file too long", &long, b"");
+}
+
+fn main() {
+    accepted_cases();
+    refused_cases();
+    long_case();
+}

@@ -1,0 +1,25 @@
+-- The listing of document 01's chapter "Listing", byte for byte, and numbers in base ten. Assumes nothing.
+use mathlib.Core.Path.{_≡_, refl}
+use mathlib.Core.List.{[], _∷_, _++_}
+use Rattle.chain.specs.WorkedAnchors.{acttca, acttcaResult}
+use Rattle.listing.specs.Decimal.{decimalIn, decimal}
+use Rattle.listing.specs.Lines.{told, each, anchorLine, refusedLine, listingOf}
+
+-- G1's anchors, with the result that `acttca-works` (chain) proves: `anchors 3 score 6 rounds 2`, `1 1 1 2 1 2 2`, `2 3 1 2 3 4 4`, `3 4 1 2 5 6 6`
+pub first-listing : listingOf (acttca .anchors) acttcaResult
+    ≡ (97 ∷ 110 ∷ 99 ∷ 104 ∷ 111 ∷ 114 ∷ 115 ∷ 32 ∷ 51 ∷ 32 ∷ 115 ∷ 99 ∷ 111 ∷ 114 ∷ 101 ∷ 32 ∷ 54 ∷ 32 ∷ 114 ∷ 111 ∷ 117 ∷ 110 ∷ 100 ∷ 115 ∷ 32 ∷ 50 ∷ 10 ∷ [])
+    ++ ((49 ∷ 32 ∷ 49 ∷ 32 ∷ 49 ∷ 32 ∷ 50 ∷ 32 ∷ 49 ∷ 32 ∷ 50 ∷ 32 ∷ 50 ∷ 10 ∷ [])
+    ++ ((50 ∷ 32 ∷ 51 ∷ 32 ∷ 49 ∷ 32 ∷ 50 ∷ 32 ∷ 51 ∷ 32 ∷ 52 ∷ 32 ∷ 52 ∷ 10 ∷ [])
+    ++ (51 ∷ 32 ∷ 52 ∷ 32 ∷ 49 ∷ 32 ∷ 50 ∷ 32 ∷ 53 ∷ 32 ∷ 54 ∷ 32 ∷ 54 ∷ 10 ∷ [])))
+unfolding listingOf told each anchorLine decimalIn decimal
+first-listing = refl
+
+-- `refused 4 file 1 place 65536`
+pub long-refused : refusedLine 4 1 65536 ≡ 114 ∷ 101 ∷ 102 ∷ 117 ∷ 115 ∷ 101 ∷ 100 ∷ 32 ∷ 52 ∷ 32 ∷ 102 ∷ 105 ∷ 108 ∷ 101 ∷ 32 ∷ 49 ∷ 32 ∷ 112 ∷ 108 ∷ 97 ∷ 99 ∷ 101 ∷ 32 ∷ 54 ∷ 53 ∷ 53 ∷ 51 ∷ 54 ∷ 10 ∷ []
+unfolding told decimalIn decimal
+long-refused = refl
+
+-- `0`
+pub zero-digits : decimal 0 ≡ 48 ∷ []
+unfolding decimalIn decimal
+zero-digits = refl

@@ -1,0 +1,3 @@
+-- The definitions of the listing.
+pub mod Decimal
+pub mod Lines

@@ -1,0 +1,2 @@
+-- The definitions that the contract of making the tables cites.
+pub mod Made

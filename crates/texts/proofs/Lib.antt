@@ -1,0 +1,2 @@
+-- The laws of texts of several parts.
+pub mod Parting

@@ -1,0 +1,2 @@
+-- The definitions of texts of several parts.
+pub mod Parts
