@@ -3,4 +3,3 @@ pub mod Marking
 pub mod Searching
 pub mod Stepping
 pub mod Walking
-pub mod Shortening

@@ -2,4 +2,3 @@
 pub mod Steps
 pub mod Marks
 pub mod PathAnswers
-pub mod Shorts

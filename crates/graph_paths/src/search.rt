@@ -1,5 +1,4 @@
 // A path's step, searched for among the edges as the file lists them.
-use crate::short;
 use graph_rules::rules;
 use wire::numbers::Cursor;
 use wire::numbers::Number;
@@ -30,8 +29,9 @@ fn same_edge(x: u32, y: u32, u: u32, v: u32) -> bool
     if x == u { y == v } else { false }
 }
 
-// The same search, whatever the numbers are.
-fn find_any(file: &[u8], start: usize, count: u32, u: u32, v: u32) -> Search
+// Goes along the edges, `count` of them from a place on, to the first that is not below u - v. Edges rise, so if that is not u - v,
+// none is; and a search for a greater edge may go on from there.
+pub fn find_edge(file: &[u8], start: usize, count: u32, u: u32, v: u32) -> Search
     ensures { λ r. ⌜ r ≡ searchAt count (now (file .entry)) start u v ⌝ }
 {
     let mut at = start;
@@ -52,32 +52,6 @@ fn find_any(file: &[u8], start: usize, count: u32, u: u32, v: u32) -> Search
         left -= 1;
     }
     ended(false, at, left)
-}
-
-// Goes along the edges, `count` of them from a place on, to the first that is not below u - v. Edges rise, so if that is not u - v,
-// none is; and a search for a greater edge may go on from there. The numbers of checked edges are short, and are read with no call.
-pub fn find_edge(file: &[u8], start: usize, count: u32, u: u32, v: u32) -> Search
-    ensures { λ r. ⌜ r ≡ searchAt count (now (file .entry)) start u v ⌝ }
-{
-    let mut at = start;
-    let mut ahead = count;
-    while 0 < ahead {
-        let from = short::short_at(file, at);
-        if from == 0 {
-            return find_any(file, at, ahead, u, v);
-        }
-        let second = at + short::width_of(from);
-        let to = short::short_at(file, second);
-        if to == 0 {
-            return find_any(file, at, ahead, u, v);
-        }
-        if !rules::edge_below(from, to, u, v) {
-            return ended(same_edge(from, to, u, v), at, ahead);
-        }
-        at = second + short::width_of(to);
-        ahead -= 1;
-    }
-    ended(false, at, ahead)
 }
 
 // Whether a path may step from `last` to v, looked for from where the search before it ended; before a path's first vertex `last` is 0,
