@@ -1,6 +1,6 @@
 # make test: the gate. make list: prove, build and run the listing program. make lib: the static library. make examples: the programs in C and
 # Rust over it. make badinput: the listing program on bad input. make comparelist: its listings against the second program's. make compare: fresh random cases against the second program. make bench: times and
-# instruction counts beside an unproved Rust program. make corpus: the stored corpus and its expected output, made anew.
+# instruction counts beside an unproved Rust program. make corpus: the stored cases of both corpora and their expected output, made anew.
 .PHONY: test list lib examples badinput comparelist hostlib tools compare bench corpus
 
 # the folder that make list lists
@@ -69,8 +69,11 @@ compare: tools
 bench: tools
 	bench/target/release/bench
 
-# The second program makes both files of crates/corpus; git then says whether they are the same bytes as those stored.
+# The second program makes both files of crates/corpus and of crates/writer_corpus; git then says whether they are the same bytes as those stored.
+STORED := crates/corpus/stdin crates/corpus/stdout crates/writer_corpus/stdin crates/writer_corpus/stdout
+
 corpus:
-	cd second && cargo run --quiet --release -- corpus 7 2500 ../crates/corpus/stdin ../crates/corpus/stdout
-	git diff --exit-code --stat HEAD -- crates/corpus/stdin crates/corpus/stdout
-	@echo "crates/corpus/stdin and crates/corpus/stdout: the same bytes as stored"
+	cd second && cargo run --quiet --offline --release -- corpus 7 2500 ../crates/corpus/stdin ../crates/corpus/stdout
+	cd second && cargo run --quiet --offline --release -- writers 7 1000 ../crates/writer_corpus/stdin ../crates/writer_corpus/stdout
+	git diff --exit-code --stat HEAD -- $(STORED)
+	@echo "$(STORED): the same bytes as stored"

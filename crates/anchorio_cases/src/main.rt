@@ -1,12 +1,15 @@
 // Cases of the reader and the writer of an anchor file, over the two files of document 01's listing, with the change that a case's name says.
 // A line of the reader has the answer's number, file, place, r and N; the read and the anchors' numbers; how many places of the two buffers
 // hold 0, and how many are as they were. A line of the writer has the answer's number, file, place and bytes; the bytes written, in hexadecimal
-// digits; and how many bytes of the output are as they were. One text holds the files and the names of the cases, each ended by `|`: a case gives the
-// numbers of its parts, from 0.
+// digits; and how many bytes of the output are as they were. A text holds the files and the names of the cases, each ended by `|`: a case of the reader
+// gives the numbers of its parts, from 0, and one of the writer is a name with its changes.
 use anchors_read::AnchorsAnswer;
 use anchors_read::read_anchors;
 use anchors_write::WrittenAnchors;
 use anchors_write::write_anchors;
+use changes::change_letters;
+use changes::change_numbers;
+use changes::changed;
 use telling::BYTE_BEFORE;
 use telling::NUMBER_BEFORE;
 use telling::count_bytes;
@@ -15,7 +18,9 @@ use telling::say;
 use telling::say_bytes;
 use telling::say_numbers;
 use texts::part;
+use texts::parts;
 use texts::say_filled;
+ghost use Prim.Native.Nat.{_≤_};
 
 // Writes the first n bytes as letters.
 fn say_letters(bytes: &[u8], n: usize) {
@@ -24,28 +29,6 @@ fn say_letters(bytes: &[u8], n: usize) {
             say(b" ");
             say(&bytes[..n]);
         }
-    }
-}
-
-// Sets a place, where it is there.
-fn set_letter(letters: &mut [u8], at: usize, b: u8) {
-    if at < letters.len() {
-        letters[at] = b;
-    }
-}
-
-fn set_number(numbers: &mut [u32], at: usize, x: u32) {
-    if at < numbers.len() {
-        numbers[at] = x;
-    }
-}
-
-// Writes numbers over the first places.
-fn copy_numbers(numbers: &mut [u32], from: &[u32]) {
-    let mut i: usize = 0;
-    while i < from.len() {
-        set_number(numbers, i, from[i]);
-        i += 1;
     }
 }
 
@@ -188,159 +171,98 @@ fn tell_write(name: &[u8], answer: WrittenAnchors, out: &[u8]) {
     say_filled(b" before #\n", &[count_bytes(out, BYTE_BEFORE)]);
 }
 
-// Writes r letters and n anchors into a lent output.
+// Calls the writer with a lent output.
 fn write_into(
     text: &[u8],
-    name: usize,
-    graph: usize,
-    r: u32,
-    n: u32,
+    name: &[u8],
+    changes: &[u8],
     letters: &[u8],
     anchors: &[u32],
     out: &mut [u8],
 ) {
+    let r = changed(changes, b'r', 6);
+    let n = changed(changes, b'N', 3);
+    let graph = changed(changes, b'g', 0) as usize;
     let answer = write_anchors(r, n, letters, anchors, part(text, graph), out);
-    tell_write(part(text, name), answer, out);
+    tell_write(name, answer, out);
 }
 
-// Writes into 24 bytes, which is what the listing's anchors take.
-fn write(text: &[u8], name: usize, graph: usize, r: u32, n: u32, letters: &[u8], anchors: &[u32]) {
-    let mut out = [BYTE_BEFORE; 24];
-    write_into(text, name, graph, r, n, letters, anchors, &mut out);
+// A number of a case as a length, at most so much.
+fn size_of(changes: &[u8], list: u8, most: usize, x: u32) -> usize
+    ensures { λ r. ⌜ r ≤ most ⌝ }
+{
+    let size = changed(changes, list, x) as usize;
+    if size < most { size } else { most }
 }
 
-// Writes with other numbers at two places.
-fn write_both(
-    text: &[u8],
-    name: usize,
-    letters: &[u8],
-    anchors: &[u32],
-    at: usize,
-    x: u32,
-    also: usize,
-    y: u32,
-) {
-    let mut changed = [0u32; 10240];
-    copy_numbers(&mut changed, anchors);
-    set_number(&mut changed, at, x);
-    set_number(&mut changed, also, y);
-    write(text, name, 0, 6, 3, letters, &changed);
-}
-
-// Writes with another number at a place.
-fn write_with(text: &[u8], name: usize, letters: &[u8], anchors: &[u32], at: usize, x: u32) {
-    write_both(text, name, letters, anchors, at, x, at, x);
-}
-
-// The counts of letters, and the first case.
-fn write_letter_counts(text: &[u8], letters: &[u8], anchors: &[u32]) {
-    write(text, 3, 0, 6, 3, letters, anchors);
-    write(text, 4, 0, 0, 3, letters, anchors);
-    write(text, 5, 0, 7, 3, letters, anchors);
-    write(text, 6, 0, 32769, 3, letters, anchors);
-    write(text, 7, 0, 5, 3, letters, anchors);
-}
-
-// The counts of anchors, and the graph file.
-fn write_anchor_counts(text: &[u8], letters: &[u8], anchors: &[u32]) {
-    write(text, 8, 0, 6, 0, letters, anchors);
-    write(text, 9, 0, 6, 4, letters, anchors);
-    write(text, 10, 0, 6, 2049, letters, anchors);
-    write(text, 11, 0, 6, 4294967295, letters, anchors);
-    write(text, 12, 1, 6, 3, letters, anchors);
-    write(text, 13, 1, 0, 3, letters, anchors);
-}
-
-// The buffers that are read.
-fn write_from(text: &[u8], letters: &[u8], anchors: &[u32]) {
-    let few_letters = [b'A'; 32767];
-    let few_anchors = [1u32; 10239];
-    write(text, 14, 0, 6, 3, &few_letters, anchors);
-    write(text, 15, 0, 6, 3, letters, &few_anchors);
-    write(text, 16, 1, 6, 3, letters, &few_anchors);
-}
-
-// The output.
-fn write_rooms(text: &[u8], letters: &[u8], anchors: &[u32]) {
-    let mut short = [BYTE_BEFORE; 23];
-    write_into(text, 17, 0, 6, 3, letters, anchors, &mut short);
-    let mut more = [BYTE_BEFORE; 26];
-    write_into(text, 18, 0, 6, 3, letters, anchors, &mut more);
-}
-
-// One of the first three numbers of the first anchor changed.
-fn write_first(text: &[u8], letters: &[u8], anchors: &[u32]) {
-    write_with(text, 19, letters, anchors, 0, 0);
-    write_with(text, 20, letters, anchors, 0, 5);
-    write_with(text, 21, letters, anchors, 1, 0);
-    write_with(text, 22, letters, anchors, 1, 4294967295);
-    write_with(text, 23, letters, anchors, 2, 0);
-    write_with(text, 24, letters, anchors, 2, 4294967295);
-    write_with(text, 25, letters, anchors, 2, 2);
-}
-
-// One of its last two.
-fn write_next(text: &[u8], letters: &[u8], anchors: &[u32]) {
-    write_with(text, 26, letters, anchors, 3, 0);
-    write_with(text, 27, letters, anchors, 3, 3);
-    write_with(text, 28, letters, anchors, 3, 4294967295);
-    write_with(text, 29, letters, anchors, 4, 0);
-    write_with(text, 30, letters, anchors, 4, 65536);
-    write_with(text, 31, letters, anchors, 4, 65535);
-}
-
-// Two numbers changed: two faults of the first anchor, then an anchor as the one before it, or with letters that differ.
-fn write_pairs(text: &[u8], letters: &[u8], anchors: &[u32]) {
-    write_both(text, 32, letters, anchors, 4, 0, 1, 0);
-    write_both(text, 33, letters, anchors, 4, 0, 2, 2);
-    write_both(text, 34, letters, anchors, 5, 1, 7, 1);
-    write_with(text, 35, letters, anchors, 5, 1);
-    write_both(text, 36, letters, anchors, 10, 3, 12, 3);
-}
-
-// The last letter changed.
-fn write_letters(text: &[u8], letters: &mut [u8], anchors: &[u32]) {
-    set_letter(letters, 5, b'N');
-    write(text, 37, 0, 6, 3, letters, anchors);
-    write(text, 38, 0, 6, 2049, letters, anchors);
-    set_letter(letters, 5, b'G');
-    write(text, 39, 0, 6, 3, letters, anchors);
-}
-
-// The writer's cases.
-fn write_cases(text: &[u8], letters: &[u8], anchors: &[u32]) {
-    write_letter_counts(text, letters, anchors);
-    write_anchor_counts(text, letters, anchors);
-    write_from(text, letters, anchors);
-    write_rooms(text, letters, anchors);
-    write_first(text, letters, anchors);
-    write_next(text, letters, anchors);
-    write_pairs(text, letters, anchors);
-}
-
-// All of them, from what the reader makes of the listing's files.
-fn write_all(text: &[u8], letters: &mut [u8], anchors: &mut [u32]) {
-    read_anchors(part(text, 0), part(text, 2), letters, anchors);
-    write_cases(text, letters, anchors);
-    write_letters(text, letters, anchors);
-}
-
-// The writer's text has the graph file, the same cut short, the anchor file, and then the names of its cases.
-fn main() {
-    read_all();
+// The listing's read and anchors, as the reader makes them, with a case's changes.
+fn letters_of(text: &[u8], changes: &[u8]) -> [u8; 32768] {
     let mut letters = letter_room();
     let mut anchors = anchor_room();
+    read_anchors(part(text, 0), part(text, 2), &mut letters, &mut anchors);
+    change_letters(changes, b's', &mut letters);
+    letters
+}
+
+fn anchors_of(text: &[u8], changes: &[u8]) -> [u32; 10240] {
+    let mut letters = letter_room();
+    let mut anchors = anchor_room();
+    read_anchors(part(text, 0), part(text, 2), &mut letters, &mut anchors);
+    change_numbers(changes, b'a', &mut anchors);
+    anchors
+}
+
+// Runs a case, into 24 bytes, which is what the listing's anchors take, or into as many as it says.
+fn write(text: &[u8], name: &[u8], changes: &[u8]) {
+    let letters = letters_of(text, changes);
+    let anchors = anchors_of(text, changes);
+    let few_letters = size_of(changes, b'F', 32768, 32768);
+    let few_anchors = size_of(changes, b'f', 10240, 10240);
+    let mut out = [BYTE_BEFORE; 26];
+    let room = size_of(changes, b'R', 26, 24);
+    write_into(
+        text,
+        name,
+        changes,
+        &letters[..few_letters],
+        &anchors[..few_anchors],
+        &mut out[..room],
+    );
+}
+
+// Runs every case of the writer, each of which has two parts of the text.
+fn write_all(text: &[u8]) {
+    let cases = parts(text) / 2;
+    let mut k: usize = 2;
+    while k < cases {
+        write(text, part(text, 2 * k), part(text, 2 * k + 1));
+        k += 1;
+    }
+}
+
+// The writer's text has the graph file, the same cut short, the anchor file and an empty part, and then each case's name and changes (crate changes).
+// The lists are r and N; g, which graph file; R, the output's room; F and f, how many letters and numbers of anchors are lent; the letters s and
+// the anchors a. From `from 10239 anchors, r 0` on each case has two faults, of rules that follow one another: the first in document 01's order
+// is the answer.
+fn main() {
+    read_all();
     write_all(
         b"\x01\x04\x02\x41\x43\x01\x47\x02\x54\x54\x02\x43\x41\x04\x01\x02\x01\x03\x02\x04\x03\x04\x02\x03\x01\x02\x04\x03\x01\x03\x04|\
           \x01\x04\x02\x41\x43\x01\x47\x02\x54\x54\x02\x43\x41\x04\x01\x02\x01\x03\x02\x04\x03\x04\x02\x03\x01\x02\x04\x03\x01\x03|\
-          \x02\x06\x41\x43\x54\x54\x43\x41\x03\x01\x01\x01\x02\x02\x03\x01\x03\x02\x02\x04\x01\x05\x02\x02|\
-          G1|r 0|r 7|r 32769|r 5|N 0|N 4|N 2049|N 4294967295|a cut graph|a cut graph and r 0|\
-          from 32767 letters|from 10239 anchors|a cut graph, from 10239 anchors|into 23 bytes|into 26 bytes|\
-          v 0|v 5|x 0|x 4294967295|c 0|c 4294967295|c 2|\
-          length 0|length 3|length 4294967295|weight 0|weight 65536|weight 65535|\
-          weight 0 and x 0|weight 0 and c 2|v 1 and c 1 of the second|v 1 of the second|v 3 and c 3 of the third|\
-          letter N|letter N and N 2049|letter G|",
-        &mut letters,
-        &mut anchors,
+          \x02\x06\x41\x43\x54\x54\x43\x41\x03\x01\x01\x01\x02\x02\x03\x01\x03\x02\x02\x04\x01\x05\x02\x02||\
+          G1||r 0|r=0;|r 7|r=7;|r 32769|r=32769;|r 5|r=5;|N 0|N=0;|N 4|N=4;|N 2049|N=2049;|N 4294967295|N=4294967295;|\
+          a cut graph|g=1;|a cut graph and r 0|g=1;r=0;|from 32767 letters|F=32767;|from 10239 anchors|f=10239;|\
+          a cut graph, from 10239 anchors|g=1;f=10239;|into 23 bytes|R=23;|into 26 bytes|R=26;|v 0|a=0;|v 5|a=5;|x 0|a1=0;|\
+          x 4294967295|a1=4294967295;|c 0|a2=0;|c 4294967295|a2=4294967295;|c 2|a2=2;|length 0|a3=0;|length 3|a3=3;|\
+          length 4294967295|a3=4294967295;|weight 0|a4=0;|weight 65536|a4=65536;|weight 65535|a4=65535;|\
+          weight 0 and x 0|a4=0;a1=0;|weight 0 and c 2|a4=0;a2=2;|v 1 and c 1 of the second|a5=1;a7=1;|v 1 of the second|a5=1;|\
+          v 3 and c 3 of the third|a10=3;a12=3;|letter N|s5=78;|letter N and N 2049|s5=78;N=2049;|letter G|s5=71;|\
+          from 10239 anchors, r 0|f=10239;r=0;|a cut graph, letter N|g=1;s5=78;|r 32769, letter N|r=32769;s=78;|\
+          letter N, v 0|s5=78;a=0;|N 2049, v 0|N=2049;a=0;|v 0, x 0|a=0;a1=0;|v 5, length 0|a=5;a3=0;|v 0, weight 0|a=0;a4=0;|\
+          v 0 of the second, below the first|a5=0;|v 1 and x 0 of the second, below the first|a5=1;a6=0;|\
+          the second as the first, with weight 0|a5=1;a7=1;a9=0;|v 3 and c 2 of the third, below the second|a10=3;a12=2;|\
+          length 0, v 0 of the second|a3=0;a5=0;|weight 0, v 0 of the second|a4=0;a5=0;|c 2, v 0 of the second|a2=2;a5=0;|\
+          the second as the first, v 0 of the third|a5=1;a7=1;a10=0;|the third as the second, into 0 bytes|a10=3;a12=3;R=0;|\
+          N 2049, into 0 bytes|N=2049;R=0;|a cut graph, into 0 bytes|g=1;R=0;|from 10239 anchors, into 0 bytes|f=10239;R=0;|",
     );
 }

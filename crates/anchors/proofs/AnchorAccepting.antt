@@ -6,7 +6,7 @@ use mathlib.Core.List.{List, _∷_, _++_, append-assoc, append-nil}
 use native.Mathlib.Omega.{arith}
 use lib.ListN.{length, drop}
 use lib.Dec.{leb, eqb}
-use borrow.Author.Tests.{leb-true, eqb-true}
+use borrow.Author.Tests.{leb-true, eqb-true, le-leb}
 use Rattle.wire.specs.Cases.{pick}
 use Rattle.wire.specs.Found.{good, Part}
 use Rattle.wire.specs.Numbers.{encode, numberAt}
@@ -25,7 +25,7 @@ use Rattle.graph.proofs.Accepting.{letters-read}
 use Rattle.anchors.specs.Anchors.{Anchor, numbersOf, readLength, anchorCount}
 use Rattle.anchors.specs.AnchorRules.{readFault, anchorCountFault, noAnchor}
 use Rattle.anchors.specs.AnchorBytes.{encodeEach}
-use Rattle.anchors.specs.AnchorReading.{Numbers, numbersAt, anchorsFrom, ParsedAnchors, anchorsOf}
+use Rattle.anchors.specs.AnchorReading.{Numbers, numbersAt, anchorsFrom, ParsedAnchors, wholeAnchors, anchorsOf}
 use Rattle.anchors.specs.GoodAnchors.{GoodAnchor, KeyBelow}
 use Rattle.anchors.proofs.AnchorOrder.{anchor-kept}
 use Rattle.anchors.proofs.AnchorSteps.{numbers-step, numbers-within, AnchorStep, anchors-step, anchors-none}
@@ -39,7 +39,7 @@ unfolding encodeNumbers
 numbers-joined a rest = simp (append-assoc, append-nil)
 
 -- an anchor's bytes are the encoding of its numbers
-pub numbers-bytes : (s : List ℕ) (at : ℕ) (a : Numbers) → Bytes s → numbersAt s at ≡ good a
+numbers-bytes : (s : List ℕ) (at : ℕ) (a : Numbers) → Bytes s → numbersAt s at ≡ good a
     → drop at s ≡ encodeNumbers (numbersOf (a .anchor)) ++ drop (a .next) s
 numbers-bytes s at a b e =
     let n = numbers-step s at a e in
@@ -96,9 +96,8 @@ module _ (g : Graph) (read : List ℕ) where
 
 -- ---- the file
 
--- The parts of an accepted file, each with the equation of its reading: the kind, r, the read, N, the anchors, and the end.
+-- The parts of what was read of a file, each with the equation of its reading: the kind, r, the read, N, the anchors, and the end.
 pub record AnchorParts (g : Graph) (s : List ℕ) (q : ParsedAnchors) : Type 0 where
-  pub fewBytes : length s ≤ mostFileBytes
   -- the kind, and where r stands
   pub lengthAt : ℕ
   pub kindIs : numberAt s 0 ≡ Value anchorKind (record { at = lengthAt })
@@ -120,7 +119,6 @@ pub record AnchorParts (g : Graph) (s : List ℕ) (q : ParsedAnchors) : Type 0 w
 -- the parts, from what was found of each
 parts-from : (g : Graph) (s : List ℕ) (q : ParsedAnchors) (kind : ℕ) (a : Cursor) (r : ℕ) (b : Cursor) (read : List ℕ) (n : ℕ) (c : Cursor)
     (p : Part (List Anchor))
-    → pick (leb (length s) mostFileBytes) 0 outOfRange ≡ 0
     → numberAt s 0 ≡ Value kind a
     → pick (eqb kind anchorKind) 0 wrongKind ≡ 0
     → numberAt s (a .at) ≡ Value r b
@@ -132,7 +130,7 @@ parts-from : (g : Graph) (s : List ℕ) (q : ParsedAnchors) (kind : ℕ) (a : Cu
     → pick (eqb (p .next) (length s)) 0 leftOver ≡ 0
     → record { set = record { read = read; anchors = p .content }; readAt = b .at; anchorsAt = c .at } ≡ q
     → AnchorParts g s q
-parts-from g s q kind a r b read n c p few kindIs isKind lengthIs keptR readIs countIs keptN anchorsIs ends e =
+parts-from g s q kind a r b read n c p kindIs isKind lengthIs keptR readIs countIs keptN anchorsIs ends e =
     let w = number-within s (a .at) r b lengthIs in
     let l = letters-read r s (b .at) read (w .1) readIs in
     let v = number-within s (b .at + r) n c countIs in
@@ -143,7 +141,6 @@ parts-from g s q kind a r b read n c p few kindIs isKind lengthIs keptR readIs c
     let hn = range-kept 0 mostAnchors n keptN in
     subst (AnchorParts g s) e
     (record {
-      fewBytes = leb-true (length s) mostFileBytes (passed (leb (length s) mostFileBytes) outOfRange (omega arith) few);
       lengthAt = a .at;
       kindIs = kindIs ∙ ap (λ (j : ℕ). Value j a) k;
       lengthIs = lengthIs ∙ ap (λ (j : ℕ). Value j b) (sym (l .count));
@@ -159,12 +156,11 @@ parts-from g s q kind a r b read n c p few kindIs isKind lengthIs keptR readIs c
       anchorsWithin = v .1;
     })
 
--- The inversion: an accepted file has the parts of its content.
-pub anchor-parts : (g : Graph) (s : List ℕ) (q : ParsedAnchors) → anchorsOf g s ≡ good q → AnchorParts g s q
-unfolding anchorsOf
-anchor-parts g s q e =
-    let e1 = refuse-good (pick (leb (length s) mostFileBytes) 0 outOfRange) mostFileBytes _ q e in
-    let e2 = number-good s 0 _ q (e1 .1) in
+-- The inversion: what was read of a file has the parts of its content.
+pub whole-parts : (g : Graph) (s : List ℕ) (q : ParsedAnchors) → wholeAnchors g s ≡ good q → AnchorParts g s q
+unfolding wholeAnchors
+whole-parts g s q e =
+    let e2 = number-good s 0 _ q e in
     let e3 = refuse-good (pick (eqb (e2 .0) anchorKind) 0 wrongKind) 0 _ q (e2 .3) in
     let e4 = number-good s (e2 .1 .at) _ q (e3 .1) in
     let e5 = refuse-good (readFault (e4 .0)) (e2 .1 .at) _ q (e4 .3) in
@@ -174,4 +170,19 @@ anchor-parts g s q e =
     let e9 = then-good (anchorsFrom g (e6 .0) (e7 .0) noAnchor s (e7 .1 .at)) _ q (e8 .1) in
     let e10 = refuse-good (pick (eqb (e9 .0 .next) (length s)) 0 leftOver) (e9 .0 .next) _ q (e9 .2) in
     parts-from g s q (e2 .0) (e2 .1) (e4 .0) (e4 .1) (e6 .0) (e7 .0) (e7 .1) (e9 .0)
-    (e1 .0) (e2 .2) (e3 .0) (e4 .2) (e5 .0) (e6 .1) (e7 .2) (e8 .0) (e9 .1) (e10 .0) (good-same _ q (e10 .1))
+    (e2 .2) (e3 .0) (e4 .2) (e5 .0) (e6 .1) (e7 .2) (e8 .0) (e9 .1) (e10 .0) (good-same _ q (e10 .1))
+
+-- an accepted file is not too long
+pub not-long : (g : Graph) (s : List ℕ) (q : ParsedAnchors) → anchorsOf g s ≡ good q → (length s ≤ mostFileBytes) × (wholeAnchors g s ≡ good q)
+unfolding anchorsOf
+not-long g s q e =
+    let t = refuse-good (pick (leb (length s) mostFileBytes) 0 outOfRange) mostFileBytes (wholeAnchors g s) q e in
+    (leb-true (length s) mostFileBytes (passed (leb (length s) mostFileBytes) outOfRange (omega arith) (t .0)), t .1)
+
+-- and of one that is not, the bytes decide
+pub few-bytes : (g : Graph) (s : List ℕ) → length s ≤ mostFileBytes → anchorsOf g s ≡ wholeAnchors g s
+unfolding anchorsOf
+few-bytes g s h = simp (le-leb (length s) mostFileBytes h)
+
+pub anchor-parts : (g : Graph) (s : List ℕ) (q : ParsedAnchors) → anchorsOf g s ≡ good q → AnchorParts g s q
+anchor-parts g s q e = whole-parts g s q (not-long g s q e .1)

@@ -26,13 +26,6 @@ module _ (g : Graph) (k : GoodGraph g) where
     λ t. (parsedAnchors (t .0), ap (anchorsOf g) (t .2) ∙ encoded-read g (t .0) k (t .1)),
   )
 
-  -- and with that content
-  pub content-exactly : (s : List ℕ) (a : AnchorSet) → Bytes s → (anchorsOf g s ≡ good (parsedAnchors a)) ↔ (GoodAnchors g a × (s ≡ encodeAnchors a))
-  content-exactly s a b = (
-    λ e. let h = anchors-taken g s (parsedAnchors a) b e in (h .rules, h .bytes),
-    λ t. ap (anchorsOf g) (t .1) ∙ encoded-read g a k (t .0),
-  )
-
   -- good content is one where its encoding is
   pub content-one : (a c : AnchorSet) → GoodAnchors g a → GoodAnchors g c → encodeAnchors a ≡ encodeAnchors c → a ≡ c
   content-one a c h i e =

@@ -1,17 +1,16 @@
 -- Every proper prefix of an accepted anchor file is refused: its bytes end within the file.
 -- Assumes nothing.
 use Prim.Native.Nat.{ℕ, zero, suc, _+_, _≤_, _<_}
-use mathlib.Core.Path.{_≡_, refl, sym, ap, ap₂}
+use mathlib.Core.Path.{_≡_, refl, sym, ap, ap₂, _∙_}
 use mathlib.Core.Logic.{inl, inr}
 use mathlib.Core.List.{List, _∷_}
 use native.Mathlib.Omega.{arith}
 use lib.ListN.{length, take}
-use lib.Dec.{leb, eqb}
-use borrow.Author.Tests.{le-leb}
+use lib.Dec.{eqb}
 use Rattle.wire.specs.Cases.{pick}
-use Rattle.wire.specs.Found.{good, fault, Part, accepted, refused}
-use Rattle.wire.specs.Refusals.{bytesEnd, outOfRange, wrongKind, anchorFile}
-use Rattle.wire.specs.Sizes.{anchorKind, mostFileBytes, mostRead, mostAnchors}
+use Rattle.wire.specs.Found.{good, fault, Part}
+use Rattle.wire.specs.Refusals.{bytesEnd, wrongKind}
+use Rattle.wire.specs.Sizes.{anchorKind, mostRead, mostAnchors}
 use Rattle.wire.proofs.Cutting.{CutTo, cut-good, cut-then, cut-number, cut-refuse}
 use Rattle.graph.specs.Content.{Graph}
 use Rattle.graph.specs.Reading.{lettersFrom}
@@ -19,11 +18,9 @@ use Rattle.graph.proofs.Kept.{range-free}
 use Rattle.graph.proofs.Prefixes.{cut-length, letters-cut}
 use Rattle.anchors.specs.Anchors.{Anchor, readLength, anchorCount}
 use Rattle.anchors.specs.AnchorRules.{readFault, anchorCountFault, anchorFault, faultPlace, noAnchor}
-use Rattle.anchors.specs.AnchorReading.{Numbers, numbersAt, anchorsFrom, ParsedAnchors, anchorsOf}
-use Rattle.anchors.specs.AnchorEntries.{Both, bothReply}
+use Rattle.anchors.specs.AnchorReading.{Numbers, numbersAt, anchorsFrom, ParsedAnchors, wholeAnchors, anchorsOf}
 use Rattle.anchors.proofs.AnchorSteps.{numbers-step, anchors-step, anchors-none}
-use Rattle.anchors.proofs.AnchorAccepting.{AnchorParts, anchor-parts}
-use Rattle.anchors.proofs.BothFiles.{both-taken}
+use Rattle.anchors.proofs.AnchorAccepting.{AnchorParts, not-long, few-bytes, anchor-parts}
 
 module _ (s : List ℕ) (j : ℕ) (fits : j ≤ length s) where
   -- an anchor's numbers: they end within the prefix and are read again, or the bytes end
@@ -60,14 +57,12 @@ module _ (s : List ℕ) (j : ℕ) (fits : j ≤ length s) where
       cut-good _ m))))
 
   -- the parts, one after the other: the anchors do not end within the prefix
-  parts-cut : (g : Graph) (q : ParsedAnchors) → AnchorParts g s q → j < length s → CutTo j (length s ≤ j) q (anchorsOf g (take j s))
-  unfolding anchorsOf
+  parts-cut : (g : Graph) (q : ParsedAnchors) → AnchorParts g s q → j < length s → CutTo j (length s ≤ j) q (wholeAnchors g (take j s))
+  unfolding wholeAnchors
   parts-cut g q p short =
       let r : ℕ = readLength (q .set) in
       let n : ℕ = anchorCount (q .set) in
-      cut-refuse (pick (leb (length (take j s)) mostFileBytes) 0 outOfRange) mostFileBytes _
-      (rw (cut-length s j fits, le-leb j mostFileBytes (omega (arith, p .fewBytes))))
-      (cut-number s 0 j anchorKind _ _ fits (p .kindIs) (λ h.
+      cut-number s 0 j anchorKind _ _ fits (p .kindIs) (λ h.
       cut-refuse (pick (eqb anchorKind anchorKind) 0 wrongKind) 0 _ refl
       (cut-number s (p .lengthAt) j r _ _ fits (p .lengthIs) (λ i.
       cut-refuse (readFault r) (p .lengthAt) _ (range-free 1 mostRead r (p .someRead) (p .fewRead))
@@ -76,21 +71,15 @@ module _ (s : List ℕ) (j : ℕ) (fits : j ≤ length s) where
       cut-refuse (anchorCountFault n) (q .readAt + r) _ (range-free 0 mostAnchors n (omega arith) (p .fewAnchors))
       (cut-then (anchorsFrom g (q .set .read) n noAnchor (take j s) (q .anchorsAt)) (record { content = q .set .anchors; next = length s }) _
       (anchors-cut g (q .set .read) n noAnchor (q .anchorsAt) _ l (p .anchorsIs)) (λ m.
-      absurd (omega arith))))))))))
+      absurd (omega arith)))))))))
 
 -- the first j bytes of an accepted file of more
 pub prefix-refused : (g : Graph) (s : List ℕ) (q : ParsedAnchors) (j : ℕ) → anchorsOf g s ≡ good q → j < length s
     → anchorsOf g (take j s) ≡ fault bytesEnd j
 prefix-refused g s q j e h =
-    elim (parts-cut s j (omega arith) g q (anchor-parts g s q e) h .either) [
+    let few = not-long g s q e .0 in
+    few-bytes g (take j s) (omega (arith, cut-length s j (omega arith)))
+    ∙ elim (parts-cut s j (omega arith) g q (anchor-parts g s q e) h .either) [
       | inl k ↦ absurd (omega (arith, k .0))
       | inr k ↦ k
     ]
-
--- and so in a call on both files
-pub prefix-both : (graph file : List ℕ) (p : Both) (j : ℕ) → bothReply graph file ≡ accepted p → j < length file
-    → bothReply graph (take j file) ≡ refused bytesEnd anchorFile j
-unfolding bothReply
-prefix-both graph file p j e h =
-    let t = both-taken graph file p e in
-    simp (t .graphIs, prefix-refused (p .graph .graph) file (p .anchors) j (t .anchorsIs) h)

@@ -8,16 +8,16 @@ use native.Mathlib.Omega.{arith}
 use lib.ListN.{length, take, drop, replicate}
 use lib.Seq.{take-at, take-append-seam}
 use lib.Dec.{leb}
-use borrow.Author.Tests.{leb-true, le-leb}
+use borrow.Author.Tests.{le-leb}
 use Rattle.wire.specs.Found.{good, Reply, accepted, inFile}
 use Rattle.wire.specs.Lent.{padded, laid, front}
-use Rattle.wire.specs.Refusals.{outOfRange, smallBuffer, shortOutput, graphFile, anchorFile}
+use Rattle.wire.specs.Refusals.{outOfRange, smallBuffer, shortOutput, anchorFile}
 use Rattle.wire.specs.Sizes.{mostFileBytes, fullLetters, fullAnchors}
 use Rattle.wire.proofs.NumberLaws.{Bytes}
 use Rattle.wire.proofs.Laying.{length-laid}
 use Rattle.graph.specs.Content.{Graph}
+use Rattle.graph.specs.Good.{GoodGraph}
 use Rattle.graph.specs.Reading.{Parsed, graphOf}
-use Rattle.graph.proofs.Kept.{both}
 use Rattle.graph.proofs.Parted.{parts}
 use Rattle.graph.proofs.Whole.{parts-good}
 use Rattle.anchors.specs.Anchors.{Anchor, AnchorSet, perAnchor, anchorNumbers, readLength, anchorCount}
@@ -26,7 +26,9 @@ use Rattle.anchors.specs.AnchorPlaces.{parsedAnchors}
 use Rattle.anchors.specs.GoodAnchors.{GoodAnchors}
 use Rattle.anchors.specs.AnchorEntries.{Both, bothReply, AnchorBuffers, roomyAnchors, readAnchorsReply, filledAnchors, AnchorsGiven, anchorsGiven, anchorSizeReply, writeAnchorsReply, writeAnchorsAfter}
 use Rattle.wire.proofs.Replying.{accepted-same, on-accepted, file-accepted, test-accepted}
+use Rattle.anchors.proofs.FileOrder.{content-next, WriteOrdered, write-small, write-graph, write-content, write-ordered}
 use Rattle.anchors.proofs.AnchorWhole.{anchors-taken}
+use Rattle.anchors.proofs.AnchorRooms.{full-buffers, buffers-full}
 use Rattle.anchors.proofs.AnchorSizes.{anchors-short}
 use Rattle.anchors.proofs.AnchorRereading.{encoded-read}
 use Rattle.anchors.proofs.AnchorGiven.{ContentHeld, content-held, content-given}
@@ -45,21 +47,6 @@ unfolding anchorNumbers
 numbers-count [] = refl
 numbers-count (a ∷ each) = let i = numbers-count each in omega arith
 
--- full buffers
-pub record Roomy (b : AnchorBuffers) : Type 0 where
-  pub letters : fullLetters ≤ length (b .letters)
-  pub anchors : fullAnchors ≤ length (b .anchors)
-
-pub roomy-is : (b : AnchorBuffers) → roomyAnchors b ≡ true → Roomy b
-unfolding roomyAnchors
-roomy-is b e =
-    let t = both (leb fullLetters (length (b .letters))) (leb fullAnchors (length (b .anchors))) e in
-    record { letters = leb-true fullLetters (length (b .letters)) (t .0); anchors = leb-true fullAnchors (length (b .anchors)) (t .1) }
-
-pub is-roomy : (b : AnchorBuffers) → Roomy b → roomyAnchors b ≡ true
-unfolding roomyAnchors
-is-roomy b h = simp (le-leb fullLetters (length (b .letters)) (h .letters), le-leb fullAnchors (length (b .anchors)) (h .anchors))
-
 module _ (g : Graph) (a : AnchorSet) (h : GoodAnchors g a) (b : AnchorBuffers) where
   read-fits : length (a .read) ≤ fullLetters
   read-fits = omega (arith, h .fewRead)
@@ -68,12 +55,13 @@ module _ (g : Graph) (a : AnchorSet) (h : GoodAnchors g a) (b : AnchorBuffers) w
   numbers-fit = omega (arith, h .fewAnchors, numbers-count (a .anchors))
 
   -- filled buffers are still full
-  filled-roomy : Roomy b → Roomy (filledAnchors a b)
+  filled-roomy : roomyAnchors b ≡ true → roomyAnchors (filledAnchors a b) ≡ true
   unfolding filledAnchors
-  filled-roomy t =
-      let l = length-laid fullLetters (a .read) (b .letters) read-fits (t .letters) in
-      let n = length-laid fullAnchors (anchorNumbers (a .anchors)) (b .anchors) numbers-fit (t .anchors) in
-      record { letters = omega (arith, t .letters); anchors = omega (arith, t .anchors) }
+  filled-roomy r =
+      let t = full-buffers b r in
+      let l = length-laid fullLetters (a .read) (b .letters) read-fits (t .0) in
+      let n = length-laid fullAnchors (anchorNumbers (a .anchors)) (b .anchors) numbers-fit (t .1) in
+      buffers-full (filledAnchors a b) (omega (arith, t .0)) (omega (arith, t .1))
 
 -- ---- read, then written
 
@@ -81,12 +69,12 @@ module _ (g : Graph) (a : AnchorSet) (h : GoodAnchors g a) (b : AnchorBuffers) w
 abbrev pub readContent : AnchorSet → AnchorBuffers → AnchorsGiven
 readContent a b = record { r = readLength a; n = anchorCount a; buffers = filledAnchors a b }
 
-read-given : (g : Graph) (a : AnchorSet) (b : AnchorBuffers) → GoodAnchors g a → anchorsGiven g (readContent a b) ≡ good a
+read-given : (g : Graph) (a : AnchorSet) (b : AnchorBuffers) → GoodGraph g → GoodAnchors g a → anchorsGiven g (readContent a b) ≡ good a
 unfolding filledAnchors
-read-given g a b h =
+read-given g a b k h =
     let l = laid-front fullLetters (a .read) (b .letters) in
     let n = laid-front fullAnchors (anchorNumbers (a .anchors)) (b .anchors) in
-    content-given g (readContent a b) a (l .0) (n .0) h refl refl (l .1) (n .1)
+    content-given g (readContent a b) a (l .0) (n .0) k h refl refl (l .1) (n .1)
 
 size-accepted : (room : ℕ) (a : AnchorSet) → length (encodeAnchors a) ≤ mostFileBytes → length (encodeAnchors a) ≤ room → anchorSizeReply room a ≡ accepted a
 unfolding anchorSizeReply
@@ -94,8 +82,7 @@ size-accepted room a h k = simp (le-leb (length (encodeAnchors a)) mostFileBytes
 
 write-accepted : (c : AnchorsGiven) (graph : List ℕ) (room : ℕ) (p : Parsed) (a : AnchorSet) → roomyAnchors (c .buffers) ≡ true
     → graphOf graph ≡ good p → anchorsGiven (p .graph) c ≡ good a → anchorSizeReply room a ≡ accepted a → writeAnchorsReply c graph room ≡ accepted a
-unfolding writeAnchorsReply
-write-accepted c graph room p a r e f s = simp (r, e, f, s)
+write-accepted c graph room p a r e f s = content-next c graph room p r e ∙ simp (f, s)
 
 -- An accepted file, read and written again with room, is the same bytes at the front of the output.
 pub read-written : (graph file out : List ℕ) (b : AnchorBuffers) (p : Both) → Bytes file → readAnchorsReply graph file b ≡ accepted p
@@ -111,35 +98,37 @@ read-written graph file out b p bytes e room =
     let q = anchors-taken (p .graph .graph) file (p .anchors) bytes (h .anchorsIs) in
     let l : length (encodeAnchors a) ≡ length file = ap length (sym (q .bytes)) in
     let s = size-accepted (length out) a (anchors-short (p .graph .graph) a (k .0) (k .1)) (omega arith) in
-    let r = is-roomy (filledAnchors a b) (filled-roomy (p .graph .graph) a (k .1) b (roomy-is b (t .0))) in
-    let w = write-accepted (readContent a b) graph (length out) (p .graph) a r (h .graphIs) (read-given (p .graph .graph) a b (k .1)) s in
+    let r = filled-roomy (p .graph .graph) a (k .1) b (t .0) in
+    let w = write-accepted (readContent a b) graph (length out) (p .graph) a r (h .graphIs) (read-given (p .graph .graph) a b (k .0) (k .1)) s in
     (w, ap (λ (x : Reply AnchorSet). writeAnchorsAfter x out) w ∙ ap (λ (f : List ℕ). front f out) (sym (q .bytes)))
 
 -- ---- written, then read
 
 -- what the writer accepted: the graph file, the content, and that there was room
 record Written (c : AnchorsGiven) (graph : List ℕ) (room : ℕ) (a : AnchorSet) : Type 0 where
-  full : Roomy (c .buffers)
+  full : roomyAnchors (c .buffers) ≡ true
   parsed : Parsed
   graphIs : graphOf graph ≡ good parsed
   got : ContentHeld (parsed .graph) c a
 
 written : (c : AnchorsGiven) (graph : List ℕ) (room : ℕ) (a : AnchorSet) → writeAnchorsReply c graph room ≡ accepted a → Written c graph room a
-unfolding writeAnchorsReply anchorSizeReply
-written c graph room a e =
-    let t = test-accepted (roomyAnchors (c .buffers)) _ smallBuffer 0 0 a e in
-    let g = on-accepted (inFile graphFile (graphOf graph)) _ a (t .1) in
-    let f = on-accepted (inFile anchorFile (anchorsGiven (g .0 .graph) c)) (anchorSizeReply room) a (g .2) in
-    let s = test-accepted (leb (length (encodeAnchors (f .0))) mostFileBytes) _ outOfRange anchorFile mostFileBytes a (f .2) in
-    let r = test-accepted (leb (length (encodeAnchors (f .0))) room) (accepted (f .0)) shortOutput 0 0 a (s .1) in
-    let q : f .0 ≡ a = accepted-same (f .0) a (r .1) in
-    let d = file-accepted anchorFile (anchorsGiven (g .0 .graph) c) (f .0) (f .1) in
-    record {
-      full = roomy-is (c .buffers) (t .0);
-      parsed = g .0;
-      graphIs = file-accepted graphFile (graphOf graph) (g .0) (g .1);
-      got = subst (ContentHeld (g .0 .graph) c) q (content-held (g .0 .graph) c (f .0) d);
-    }
+unfolding anchorSizeReply
+written c graph room a e = from (write-ordered c graph room)
+  where
+    from : WriteOrdered c graph room → Written c graph room a
+    from (write-small h r) = let z : _≡_ {A = ℕ} 0 1 = cc in absurd (omega arith)
+    from (write-graph k place g r) = let z : _≡_ {A = ℕ} 0 1 = cc in absurd (omega arith)
+    from (write-content p h g r) =
+        let f = on-accepted (inFile anchorFile (anchorsGiven (p .graph) c)) (anchorSizeReply room) a (sym r ∙ e) in
+        let s = test-accepted (leb (length (encodeAnchors (f .0))) mostFileBytes) _ outOfRange anchorFile mostFileBytes a (f .2) in
+        let t = test-accepted (leb (length (encodeAnchors (f .0))) room) (accepted (f .0)) shortOutput 0 0 a (s .1) in
+        let d = file-accepted anchorFile (anchorsGiven (p .graph) c) (f .0) (f .1) in
+        record {
+          full = h;
+          parsed = p;
+          graphIs = g;
+          got = subst (ContentHeld (p .graph) c) (accepted-same (f .0) a (t .1)) (content-held (p .graph) c (f .0) d);
+        }
 
 -- what was written is at the front of the output, it is accepted with the same content, and the used places of the buffers hold it again
 pub record ReadAgain (c : AnchorsGiven) (graph out : List ℕ) (a : AnchorSet) (b : AnchorBuffers) : Type 0 where
@@ -167,8 +156,7 @@ written-read c graph out a b e roomy =
     let fa = t .rules .fewAnchors in
     let cr = t .letterCount in
     let cn = t .count in
-    let fl = w .full .letters in
-    let fn = w .full .anchors in
+    let full = full-buffers (c .buffers) (w .full) in
     record {
       bytes = ap (λ (x : Reply AnchorSet). take (length (encodeAnchors a)) (writeAnchorsAfter x out)) e
           ∙ take-append-seam (encodeAnchors a) (drop (length (encodeAnchors a)) out);

@@ -3,15 +3,14 @@
 use Prim.Native.Nat.{ℕ}
 use mathlib.Core.Path.{_≡_, refl}
 use mathlib.Core.List.{List, [], _∷_}
-use Rattle.wire.specs.Numbers.{numberAt, numberIn, encode}
-use Rattle.wire.specs.Letters.{isLetter, letterOf, agree}
-use Rattle.wire.specs.Found.{Found, good, fault, Reply, accepted, refused}
+use Rattle.wire.specs.Numbers.{numberAt}
+use Rattle.wire.specs.Letters.{isLetter, agree}
+use Rattle.wire.specs.Found.{Reply, accepted, refused}
 use Rattle.graph.specs.Rules.{edgeFault, isEdge, isStep, vertexFault, isOn, isOnAny, allOn, coverFault}
-use Rattle.graph.specs.Reading.{Parsed, graphOf, frontOf, restOf, lettersFrom, labelsFrom, edgesFrom, verticesFrom, pathsFrom}
-use Rattle.graph.specs.Content.{Graph}
-use Rattle.anchors.specs.Anchors.{Anchor, AnchorSet}
+use Rattle.graph.specs.Reading.{graphOf, frontIn, frontOf, restOf, lettersFrom, labelsFrom, edgesFrom, verticesFrom, pathsFrom}
+use Rattle.anchors.specs.Anchors.{AnchorSet}
 use Rattle.anchors.specs.AnchorRules.{agreeFrom, lettersAgree, ownFault, keyBelow}
-use Rattle.anchors.specs.AnchorReading.{ParsedAnchors, numbersAt, anchorsFrom, anchorsOf}
+use Rattle.anchors.specs.AnchorReading.{numbersAt, anchorsFrom, wholeAnchors, anchorsOf}
 use Rattle.anchors.specs.AnchorEntries.{Both, bothReply}
 
 abbrev pub G1 : List ℕ
@@ -33,5 +32,5 @@ setOf (accepted p) = p .anchors .set
 setOf (refused k f place) = record { read = []; anchors = [] }
 
 pub listing-accepted : setOf (bothReply G1 A1) ≡ set1
-unfolding bothReply anchorsOf anchorsFrom numbersAt ownFault lettersAgree agreeFrom agree keyBelow graphOf frontOf restOf numberAt labelsFrom lettersFrom isLetter edgesFrom edgeFault pathsFrom verticesFrom vertexFault isStep isEdge coverFault allOn isOnAny isOn
+unfolding bothReply anchorsOf wholeAnchors anchorsFrom numbersAt ownFault lettersAgree agreeFrom agree keyBelow graphOf frontOf frontIn restOf numberAt labelsFrom lettersFrom isLetter edgesFrom edgeFault pathsFrom verticesFrom vertexFault isStep isEdge coverFault allOn isOnAny isOn
 listing-accepted = refl

@@ -15,10 +15,10 @@ use Rattle.graph.proofs.Accepting.{letters-read, next-tail}
 use Rattle.anchors.specs.Anchors.{readLength, anchorCount}
 use Rattle.anchors.specs.AnchorRules.{noAnchor}
 use Rattle.anchors.specs.AnchorBytes.{encodeEach, encodeAnchors}
-use Rattle.anchors.specs.AnchorReading.{ParsedAnchors, anchorsOf}
+use Rattle.anchors.specs.AnchorReading.{ParsedAnchors, wholeAnchors, anchorsOf}
 use Rattle.anchors.specs.AnchorPlaces.{readStart, anchorsStart, parsedAnchors}
 use Rattle.anchors.specs.GoodAnchors.{GoodAnchors, KeyBelow}
-use Rattle.anchors.proofs.AnchorAccepting.{anchor-parts, anchors-read}
+use Rattle.anchors.proofs.AnchorAccepting.{whole-parts, not-long, anchor-parts, anchors-read}
 
 -- what is known of an accepted file
 pub record AnchorsTaken (g : Graph) (s : List ℕ) (q : ParsedAnchors) : Type 0 where
@@ -27,10 +27,10 @@ pub record AnchorsTaken (g : Graph) (s : List ℕ) (q : ParsedAnchors) : Type 0 
   pub rules : GoodAnchors g (q .set)
   pub places : q ≡ parsedAnchors (q .set)
 
--- every file rule holds of what was accepted
-pub accepted-good : (g : Graph) (s : List ℕ) (q : ParsedAnchors) → anchorsOf g s ≡ good q → GoodAnchors g (q .set)
-accepted-good g s q e =
-    let p = anchor-parts g s q e in
+-- every rule of the content holds of what was read
+pub whole-good : (g : Graph) (s : List ℕ) (q : ParsedAnchors) → wholeAnchors g s ≡ good q → GoodAnchors g (q .set)
+whole-good g s q e =
+    let p = whole-parts g s q e in
     let w = number-within s (p .lengthAt) (readLength (q .set)) _ (p .lengthIs) in
     let l = letters-read (readLength (q .set)) s (q .readAt) (q .set .read) (w .1) (p .readIs) in
     let i = anchors-read g (q .set .read) (anchorCount (q .set)) noAnchor s (q .anchorsAt) _ (p .anchorsWithin) (p .anchorsIs) in
@@ -42,6 +42,9 @@ accepted-good g s q e =
       each = i .each;
       rise = next-tail KeyBelow noAnchor (q .set .anchors) (i .rise);
     }
+
+pub accepted-good : (g : Graph) (s : List ℕ) (q : ParsedAnchors) → anchorsOf g s ≡ good q → GoodAnchors g (q .set)
+accepted-good g s q e = whole-good g s q (not-long g s q e .1)
 
 -- its bytes are the encoding, and its parts start where the encoding has them
 pub anchors-taken : (g : Graph) (s : List ℕ) (q : ParsedAnchors) → Bytes s → anchorsOf g s ≡ good q → AnchorsTaken g s q
@@ -68,7 +71,7 @@ anchors-taken g s q b e =
           ∙ ap (λ (t : List ℕ). encode n ++ t) (i .bytes b
           ∙ ap (λ (t : List ℕ). encodeEach (q .set .anchors) ++ t) (drop-length s)
           ∙ append-nil (encodeEach (q .set .anchors))))));
-      short = p .fewBytes;
+      short = not-long g s q e .0;
       rules = accepted-good g s q e;
       places = ap₂ (λ (a c : ℕ). record { set = q .set; readAt = a; anchorsAt = c }) x y;
     }

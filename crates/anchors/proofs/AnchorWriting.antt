@@ -1,34 +1,32 @@
 -- What the anchor writer refuses, and when: "4 with place 65,536 if the file would pass 65,536 bytes" never happens, and 14 "is given exactly if the
 -- encoding is longer than the room".
 -- Assumes nothing.
-use Prim.Native.Nat.{ℕ, zero, suc, _+_, _<_}
-use mathlib.Core.Path.{_≡_, refl, ap, _∙_}
+use Prim.Native.Nat.{ℕ, _≤_, _<_}
+use mathlib.Core.Path.{_≡_, refl, sym, ap, _∙_}
 use mathlib.Core.Logic.{inl, inr, _↔_}
 use mathlib.Core.List.{List}
 use mathlib.Core.Bool.{true, false}
 use native.Mathlib.Omega.{arith}
-use lib.ListN.{length, getD}
+use lib.ListN.{length}
 use lib.Dec.{leb}
 use borrow.Author.Tests.{leb-false, le-leb, lt-leb}
-use Rattle.wire.specs.Found.{good, fault, accepted, refused, inFile, onAccepted}
+use Rattle.wire.specs.Found.{Found, good, fault, accepted, refused, inFile, onAccepted, asContent, refusalNumber}
 use Rattle.wire.specs.Refusals.{outOfRange, smallBuffer, shortOutput, graphFile, anchorFile}
 use Rattle.wire.specs.Sizes.{mostFileBytes, mostRead, mostAnchors}
 use Rattle.wire.proofs.Encoding.{split}
-use Rattle.wire.proofs.Finding.{Ends, ends-then, ends-refuse, ends-fault}
 use Rattle.graph.specs.Content.{Graph}
-use Rattle.graph.specs.Rules.{letterFault}
 use Rattle.graph.specs.Reading.{Parsed, graphOf}
-use Rattle.graph.specs.Entries.{lettersGiven}
 use Rattle.graph.proofs.Parted.{parts}
 use Rattle.graph.proofs.Whole.{parts-good}
-use Rattle.anchors.specs.Anchors.{Anchor, AnchorSet}
-use Rattle.anchors.specs.AnchorRules.{readFault, anchorCountFault, anchorFault, noAnchor}
+use Rattle.anchors.specs.Anchors.{AnchorSet}
 use Rattle.anchors.specs.AnchorBytes.{encodeAnchors}
-use Rattle.anchors.specs.AnchorEntries.{AnchorsGiven, anchorIn, eachGiven, anchorsGiven, roomyAnchors, anchorSizeReply, writeAnchorsReply}
+use Rattle.anchors.specs.AnchorReading.{ParsedAnchors, wholeAnchors}
+use Rattle.anchors.specs.AnchorEntries.{AnchorsGiven, setIn, anchorsGiven, roomyAnchors, anchorSizeReply, writeAnchorsReply}
 use Rattle.wire.proofs.Replying.{on-refused, file-accepted, file-refused, test-refused}
-use Rattle.anchors.proofs.AnchorFaults.{AnchorNumber, Told, number-of, range-told, letter-told, anchor-told}
+use Rattle.anchors.proofs.FileOrder.{content-next, WriteOrdered, write-small, write-graph, write-content, write-ordered}
+use Rattle.anchors.proofs.AnchorFaults.{AnchorNumber, number-some, whole-fault}
 use Rattle.anchors.proofs.AnchorSizes.{anchors-short}
-use Rattle.anchors.proofs.AnchorGiven.{content-held}
+use Rattle.anchors.proofs.AnchorGiven.{given-set, content-held}
 
 -- ---- faults of the content
 
@@ -37,36 +35,40 @@ pub record ContentFault (k place : ℕ) : Type 0 where
   pub known : AnchorNumber k
   pub front : place ≡ 0
 
-made : (k : ℕ) → Told k → (k ≡ 0 → ⊥) → ContentFault k 0
-made k t n = record { known = number-of k t n; front = refl }
-
-letters-fault : (left : ℕ) (letters : List ℕ) (at : ℕ) → Ends (λ (l : List ℕ). Unit {0}) ContentFault (lettersGiven left letters at)
-unfolding lettersGiven
-letters-fault zero letters at = record { ends = tt }
-letters-fault (suc left) letters at =
-    ends-refuse (letterFault (getD letters at 0)) 0 _ (λ n. made _ (letter-told (getD letters at 0)) n) (λ z.
-    ends-then (lettersGiven left letters (at + 1)) _ (letters-fault left letters (at + 1)) (λ l e u. record { ends = tt }))
-
-each-fault : (g : Graph) (read : List ℕ) (left i : ℕ) (last : Anchor) (numbers : List ℕ)
-    → Ends (λ (l : List Anchor). Unit {0}) ContentFault (eachGiven g read left i last numbers)
-unfolding eachGiven
-each-fault g read zero i last numbers = record { ends = tt }
-each-fault g read (suc left) i last numbers =
-    ends-refuse (anchorFault g read last (anchorIn numbers i)) 0 _ (λ n. made _ (anchor-told g read last (anchorIn numbers i)) n) (λ z.
-    ends-then (eachGiven g read left (i + 1) (anchorIn numbers i) numbers) _ (each-fault g read left (i + 1) (anchorIn numbers i) numbers) (λ l e u.
-    record { ends = tt }))
-
-content-ends : (g : Graph) (c : AnchorsGiven) → Ends (λ (a : AnchorSet). Unit {0}) ContentFault (anchorsGiven g c)
-unfolding anchorsGiven
-content-ends g c =
-    ends-refuse (readFault (c .r)) 0 _ (λ n. made _ (range-told 1 mostRead (c .r)) n) (λ z.
-    ends-then (lettersGiven (c .r) (c .buffers .letters) 0) _ (letters-fault (c .r) (c .buffers .letters) 0) (λ read e u.
-    ends-refuse (anchorCountFault (c .n)) 0 _ (λ n. made _ (range-told 0 mostAnchors (c .n)) n) (λ y.
-    ends-then (eachGiven g read (c .n) 0 noAnchor (c .buffers .anchors)) _ (each-fault g read (c .n) 0 noAnchor (c .buffers .anchors)) (λ each f v.
-    record { ends = tt }))))
+as-fault : {A B : Type 0} (f : A → B) (x : Found A) (k place : ℕ) → asContent f x ≡ fault k place → (p : ℕ) × (x ≡ fault k p) × (place ≡ 0)
+as-fault f (good a) k place e = let z : _≡_ {A = ℕ} 0 1 = cc in absurd (omega arith)
+as-fault f (fault j p) k place e = (p, cc, cc)
 
 pub content-fault : (g : Graph) (c : AnchorsGiven) (k place : ℕ) → anchorsGiven g c ≡ fault k place → ContentFault k place
-content-fault g c k place e = ends-fault (anchorsGiven g c) k place (content-ends g c) e
+unfolding anchorsGiven
+content-fault g c k place e =
+    let t = as-fault (λ (q : ParsedAnchors). q .set) (wholeAnchors g (encodeAnchors (setIn c))) k place e in
+    record { known = whole-fault g (encodeAnchors (setIn c)) k (t .0) (t .1); front = t .2 }
+
+-- content that has a fault of number k, and content that has none
+numbered : {A : Type 0} (x : Found A) (k : ℕ) → k ≡ refusalNumber x → (k ≡ 0 → ⊥) → (place : ℕ) × (x ≡ fault k place)
+numbered (good a) k e n = absurd (n e)
+numbered (fault j place) k e n = (place, ap (λ (i : ℕ). fault i place) (sym e))
+
+unnumbered : {A : Type 0} (x : Found A) → ((place : ℕ) → x ≡ fault 0 place → ⊥) → refusalNumber x ≡ 0 → (a : A) × (x ≡ good a)
+unnumbered (good a) f e = (a, refl)
+unnumbered (fault k place) f e = absurd (f place (ap (λ (i : ℕ). fault i place) e))
+
+pub content-refused : (g : Graph) (c : AnchorsGiven) (k : ℕ) → k ≡ refusalNumber (anchorsGiven g c) → (k ≡ 0 → ⊥) → anchorsGiven g c ≡ fault k 0
+content-refused g c k e n =
+    let t = numbered (anchorsGiven g c) k e n in
+    t .1 ∙ ap (fault k) (content-fault g c k (t .0) (t .1) .front)
+
+pub content-taken : (g : Graph) (c : AnchorsGiven) → refusalNumber (anchorsGiven g c) ≡ 0 → anchorsGiven g c ≡ good (setIn c)
+content-taken g c e =
+    let t = unnumbered (anchorsGiven g c) (λ place f. omega (arith, number-some 0 (content-fault g c 0 place f .known))) e in
+    t .1 ∙ ap good (given-set g c (t .0) (t .1) .0)
+
+-- its counts are in range
+pub content-ranged : (g : Graph) (c : AnchorsGiven) → refusalNumber (anchorsGiven g c) ≡ 0 → (c .r ≤ mostRead) × (c .n ≤ mostAnchors)
+content-ranged g c e =
+    let t = content-held g c (setIn c) (content-taken g c e) in
+    (omega (arith, t .letterCount, t .rules .fewRead), omega (arith, t .count, t .rules .fewAnchors))
 
 -- ---- the writer
 
@@ -106,17 +108,20 @@ module _ (c : AnchorsGiven) (graph : List ℕ) (room : ℕ) where
 
   -- a refusal has one of these reasons: 4 with place 65,536 is none of them
   pub writer-refused : (k f place : ℕ) → writeAnchorsReply c graph room ≡ refused k f place → WriterRefusal c graph room k f place
-  unfolding writeAnchorsReply
-  writer-refused k f place e =
-      elim (test-refused (roomyAnchors (c .buffers)) _ smallBuffer 0 0 k f place e) [
-        | inr x ↦ rw (x .1, x .2, x .3) (small-buffer (x .0))
-        | inl x ↦ elim (on-refused (inFile graphFile (graphOf graph)) _ k f place (x .1)) [
-          | inl y ↦
-              let z = file-refused graphFile (graphOf graph) k f place y in
-              rw (z .1) (bad-graph k place (z .0))
-          | inr y ↦ content-refusal (y .0) k f place (file-accepted graphFile (graphOf graph) (y .0) (y .1)) (y .2)
-        ]
-      ]
+  writer-refused k f place e = from (write-ordered c graph room)
+    where
+      named : (j g p : ℕ) → writeAnchorsReply c graph room ≡ refused j g p → WriterRefusal c graph room j g p → WriterRefusal c graph room k f place
+      named j g p r h =
+          let q = sym r ∙ e in
+          let x : j ≡ k = cc in
+          let y : g ≡ f = cc in
+          let z : p ≡ place = cc in
+          rw (← x, ← y, ← z) h
+
+      from : WriteOrdered c graph room → WriterRefusal c graph room k f place
+      from (write-small h r) = named smallBuffer 0 0 r (small-buffer h)
+      from (write-graph j p h r) = named j graphFile p r (bad-graph j p h)
+      from (write-content p h g r) = content-refusal p k f place g (sym r ∙ e)
 
   never-at : (k f place : ℕ) → WriterRefusal c graph room k f place → f ≡ anchorFile → place ≡ mostFileBytes → ⊥
   never-at k f place (small-buffer h) e q = omega arith
@@ -131,17 +136,18 @@ module _ (c : AnchorsGiven) (graph : List ℕ) (room : ℕ) where
   -- "14, which is given exactly if the encoding is longer than the room"
   pub writer-short : (p : Parsed) (a : AnchorSet) → roomyAnchors (c .buffers) ≡ true → graphOf graph ≡ good p → anchorsGiven (p .graph) c ≡ good a
       → (writeAnchorsReply c graph room ≡ refused shortOutput 0 0) ↔ (room < length (encodeAnchors a))
-  unfolding writeAnchorsReply anchorSizeReply
+  unfolding anchorSizeReply
   writer-short p a r e h =
+      let n = content-next c graph room p r e in
       let w = parts-good graph p (parts graph p e) in
       let s = anchors-short (p .graph) a w (content-held (p .graph) c a h .rules) in
       let l : ℕ = length (encodeAnchors a) in (
         λ t.
             split l room
             (λ i.
-            let u = simp (r, e, h, le-leb l mostFileBytes s, le-leb l room i) at t in
+            let u = simp (h, le-leb l mostFileBytes s, le-leb l room i) at (sym n ∙ t) in
             let z : _≡_ {A = ℕ} 0 1 = cc in
             absurd (omega arith))
             (λ i. i),
-        λ i. simp (r, e, h, le-leb l mostFileBytes s, lt-leb l room i),
+        λ i. n ∙ simp (h, le-leb l mostFileBytes s, lt-leb l room i),
       )

@@ -1,25 +1,26 @@
 -- Both files: what is known of each where both are accepted, and that they are accepted exactly when every file rule holds.
 -- Assumes nothing.
 use Prim.Native.Nat.{ℕ}
-use mathlib.Core.Path.{_≡_, ap, _∙_}
+use mathlib.Core.Path.{_≡_, sym, ap, _∙_, subst}
 use mathlib.Core.List.{List}
-use Rattle.wire.specs.Found.{good, accepted, inFile}
-use Rattle.wire.specs.Refusals.{graphFile, anchorFile}
+use native.Mathlib.Omega.{arith}
+use Rattle.wire.specs.Found.{good, accepted}
 use Rattle.wire.proofs.NumberLaws.{Bytes}
 use Rattle.graph.specs.Content.{Graph}
 use Rattle.graph.specs.Good.{GoodGraph}
-use Rattle.graph.specs.Reading.{Parsed, graphOf}
+use Rattle.graph.specs.Reading.{graphOf}
 use Rattle.graph.specs.Placed.{parsedOf}
 use Rattle.graph.proofs.Parted.{parts}
 use Rattle.graph.proofs.Whole.{parts-good}
 use Rattle.graph.proofs.Exactly.{GoodFile, accepted-keeps, keeps-accepted}
 use Rattle.anchors.specs.Anchors.{AnchorSet}
 use Rattle.anchors.specs.AnchorBytes.{encodeAnchors}
-use Rattle.anchors.specs.AnchorReading.{ParsedAnchors, anchorsOf}
+use Rattle.anchors.specs.AnchorReading.{anchorsOf}
 use Rattle.anchors.specs.AnchorPlaces.{parsedAnchors}
 use Rattle.anchors.specs.AnchorEntries.{Both, bothReply}
 use Rattle.anchors.specs.GoodAnchors.{GoodAnchors}
-use Rattle.wire.proofs.Replying.{accepted-same, on-accepted, file-accepted}
+use Rattle.wire.proofs.Replying.{accepted-same}
+use Rattle.anchors.proofs.FileOrder.{Ordered, graph-refused, anchors-refused, both-accepted, anchors-next, ordered}
 use Rattle.anchors.proofs.AnchorWhole.{accepted-good, anchors-taken}
 use Rattle.anchors.proofs.AnchorRereading.{encoded-read}
 
@@ -29,20 +30,15 @@ pub record BothTaken (graph file : List ℕ) (p : Both) : Type 0 where
   pub anchorsIs : anchorsOf (p .graph .graph) file ≡ good (p .anchors)
 
 pub both-taken : (graph file : List ℕ) (p : Both) → bothReply graph file ≡ accepted p → BothTaken graph file p
-unfolding bothReply
-both-taken graph file p e =
-    let g = on-accepted (inFile graphFile (graphOf graph)) _ p e in
-    let a = on-accepted (inFile anchorFile (anchorsOf (g .0 .graph) file)) _ p (g .2) in
-    made (g .0) (a .0) (file-accepted graphFile (graphOf graph) (g .0) (g .1)) (file-accepted anchorFile (anchorsOf (g .0 .graph) file) (a .0) (a .1))
-    (accepted-same (record { graph = g .0; anchors = a .0 }) p (a .2))
+both-taken graph file p e = from (ordered graph file)
   where
-    made : (g : Parsed) (a : ParsedAnchors) → graphOf graph ≡ good g → anchorsOf (g .graph) file ≡ good a → record { graph = g; anchors = a } ≡ p
-        → BothTaken graph file p
-    made g a h i q = rw (← q) (record { graphIs = h; anchorsIs = i })
+    from : Ordered graph file → BothTaken graph file p
+    from (graph-refused k place g r) = let z : _≡_ {A = ℕ} 0 1 = cc in absurd (omega arith)
+    from (anchors-refused q k place g a r) = let z : _≡_ {A = ℕ} 0 1 = cc in absurd (omega arith)
+    from (both-accepted q g a r) = subst (BothTaken graph file) (accepted-same q p (sym r ∙ e)) (record { graphIs = g; anchorsIs = a })
 
 pub taken-both : (graph file : List ℕ) (p : Both) → BothTaken graph file p → bothReply graph file ≡ accepted p
-unfolding bothReply
-taken-both graph file p t = simp (t .graphIs, t .anchorsIs)
+taken-both graph file p t = anchors-next graph file (p .graph) (t .graphIs) ∙ rw (t .anchorsIs)
 
 -- every file rule holds of both
 pub both-good : (graph file : List ℕ) (p : Both) → BothTaken graph file p → GoodGraph (p .graph .graph) × GoodAnchors (p .graph .graph) (p .anchors .set)

@@ -1,4 +1,5 @@
 pub mod AnchorStarred
+pub mod FileOrder
 pub mod AnchorSteps
 pub mod AnchorKept
 pub mod AnchorOrder
@@ -6,12 +7,13 @@ pub mod AnchorAccepting
 pub mod AnchorWhole
 pub mod AnchorSizes
 pub mod AnchorRereading
+pub mod AnchorWritten
 pub mod AnchorGiven
 pub mod AnchorExactly
 pub mod AnchorFaults
 pub mod BothFiles
+pub mod AnchorRooms
 pub mod AnchorRoundTrips
 pub mod ViewLaws
 pub mod AnchorPrefixes
 pub mod AnchorWriting
-pub mod AnchorRooms

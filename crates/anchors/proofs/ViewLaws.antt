@@ -24,6 +24,7 @@ use Rattle.graph.specs.Good.{All}
 use Rattle.graph.specs.Encode.{encodeLabels}
 use Rattle.graph.proofs.Accepting.{letters-read}
 use Rattle.graph.proofs.Parted.{parts}
+use Rattle.graph.proofs.RoundTrips.{all-at}
 use Rattle.anchors.specs.Anchors.{Anchor, d, readLength, anchorCount}
 use Rattle.anchors.specs.AnchorRules.{labelOf, noAnchor}
 use Rattle.anchors.specs.AnchorEntries.{Both, bothReply}
@@ -33,13 +34,6 @@ use Rattle.anchors.proofs.AnchorAccepting.{anchor-parts}
 use Rattle.anchors.proofs.BothFiles.{BothTaken, both-taken, both-good}
 
 -- ---- parts of lists
-
--- what holds of each holds at a place
-pub all-at : {A : Type 0} (P : A → Type 0) (xs : List A) (i : ℕ) (d : A) → All P xs → i < length xs → P (getD xs i d)
-unfolding All
-all-at P [] i d h k = absurd (omega arith)
-all-at P (x ∷ xs) zero d h k = h .0
-all-at P (x ∷ xs) (suc i) d h k = all-at P xs i d (h .1) (omega arith)
 
 -- a part of what stands at a place of a file
 part-of : (s : List ℕ) (at : ℕ) (l rest : List ℕ) (from len : ℕ) → drop at s ≡ l ++ rest → from + len ≤ length l

@@ -1,21 +1,20 @@
 -- What the entries on both files reply, and what the lent buffers hold afterwards, in every case.
 use Prim.Native.Nat.{ℕ, zero, suc, _+_, _*_}
 use mathlib.Core.List.{List, [], _∷_}
-use mathlib.Core.Bool.{Bool, true, false, _&&_}
+use mathlib.Core.Bool.{Bool, _&&_}
 use lib.ListN.{length, getD}
 use lib.Dec.{leb}
 use Rattle.wire.specs.Cases.{pick}
-use Rattle.wire.specs.Found.{Found, good, andThen, refuse, Reply, accepted, refused, inFile, onAccepted}
+use Rattle.wire.specs.Found.{Found, asContent, Reply, accepted, refused, inFile, onAccepted}
 use Rattle.wire.specs.Lent.{laid, front}
 use Rattle.wire.specs.Refusals.{outOfRange, smallBuffer, shortOutput, graphFile, anchorFile}
 use Rattle.wire.specs.Sizes.{mostFileBytes, fullLetters, fullAnchors}
 use Rattle.graph.specs.Content.{Graph}
 use Rattle.graph.specs.Reading.{Parsed, graphOf}
-use Rattle.graph.specs.Entries.{lettersGiven}
+use Rattle.graph.specs.Entries.{numbersIn}
 use Rattle.anchors.specs.Anchors.{Anchor, AnchorSet, perAnchor, anchorNumbers}
-use Rattle.anchors.specs.AnchorRules.{readFault, anchorCountFault, anchorFault, noAnchor}
 use Rattle.anchors.specs.AnchorBytes.{encodeAnchors}
-use Rattle.anchors.specs.AnchorReading.{ParsedAnchors, anchorsOf}
+use Rattle.anchors.specs.AnchorReading.{ParsedAnchors, wholeAnchors, anchorsOf}
 
 -- ---- both files
 
@@ -79,21 +78,21 @@ anchorIn numbers i = record {
   weight = getD numbers (perAnchor * i + 4) 0;
 }
 
--- the anchors, `left` of them, from anchor i on, after the anchor `last`
-unfoldable pub eachGiven : Graph → List ℕ → ℕ → ℕ → Anchor → List ℕ → Found (List Anchor)
-eachGiven g read zero i last numbers = good []
-eachGiven g read (suc left) i last numbers =
-    refuse (anchorFault g read last (anchorIn numbers i)) 0
-    (andThen (eachGiven g read left (i + 1) (anchorIn numbers i) numbers) (λ rest. good (anchorIn numbers i ∷ rest)))
+-- the anchors, `left` of them, from anchor i on
+unfoldable pub anchorsIn : ℕ → ℕ → List ℕ → List Anchor
+anchorsIn zero i numbers = []
+anchorsIn (suc left) i numbers = anchorIn numbers i ∷ anchorsIn left (i + 1) numbers
 
--- the content that is given, or its first fault, in the reader's order, with place 0
+-- the read and the anchors in the used places, taken without any test: "Content means the used places."
+abbrev pub setIn : AnchorsGiven → AnchorSet
+setIn c = record {
+  read = numbersIn (c .r) 0 (c .buffers .letters);
+  anchors = anchorsIn (c .n) 0 (c .buffers .anchors);
+}
+
+-- the content that is given, or its first fault: "4 to 9, 11 and 12 as the reader would for that content (with place 0 for faults of the content)"
 unfoldable pub anchorsGiven : Graph → AnchorsGiven → Found AnchorSet
-anchorsGiven g c =
-    refuse (readFault (c .r)) 0
-    (andThen (lettersGiven (c .r) (c .buffers .letters) 0) (λ read.
-    refuse (anchorCountFault (c .n)) 0
-    (andThen (eachGiven g read (c .n) 0 noAnchor (c .buffers .anchors)) (λ each.
-    good (record { read = read; anchors = each })))))
+anchorsGiven g c = asContent (λ q. q .set) (wholeAnchors g (encodeAnchors (setIn c)))
 
 -- "then 4 with place 65,536 if the file would pass 65,536 bytes, then 14, which is given exactly if the encoding is longer than the room"
 unfoldable pub anchorSizeReply : ℕ → AnchorSet → Reply AnchorSet

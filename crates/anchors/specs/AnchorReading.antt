@@ -43,11 +43,10 @@ pub record ParsedAnchors : Type 0 where
   pub readAt : ℕ
   pub anchorsAt : ℕ
 
--- what reading the anchor file s over the graph g finds: "file too long; then byte by byte from the front"
-unfoldable pub anchorsOf : Graph → List ℕ → Found ParsedAnchors
-anchorsOf g s =
-    refuse (pick (leb (length s) mostFileBytes) 0 outOfRange) mostFileBytes
-    (number s 0 (λ kind a.
+-- what reading an anchor file's bytes s over the graph g finds, however many they are: "byte by byte from the front"
+unfoldable pub wholeAnchors : Graph → List ℕ → Found ParsedAnchors
+wholeAnchors g s =
+    number s 0 (λ kind a.
     refuse (pick (eqb kind anchorKind) 0 wrongKind) 0
     (number s a (λ r b.
     refuse (readFault r) a
@@ -56,4 +55,8 @@ anchorsOf g s =
     refuse (anchorCountFault n) (b + r)
     (andThen (anchorsFrom g read n noAnchor s c) (λ anchors.
     refuse (pick (eqb (anchors .next) (length s)) 0 leftOver) (anchors .next)
-    (good (record { set = record { read = read; anchors = anchors .content }; readAt = b; anchorsAt = c })))))))))))
+    (good (record { set = record { read = read; anchors = anchors .content }; readAt = b; anchorsAt = c }))))))))))
+
+-- what reading the anchor file s over the graph g finds: "file too long; then byte by byte from the front"
+unfoldable pub anchorsOf : Graph → List ℕ → Found ParsedAnchors
+anchorsOf g s = refuse (pick (leb (length s) mostFileBytes) 0 outOfRange) mostFileBytes (wholeAnchors g s)

@@ -16,6 +16,7 @@ use Rattle.anchors_check.specs.CheckedAnchors.{anchorSectionsOf, checked
 use Rattle.anchors_parts.specs.LabelTables.{parsedOf, contentOf, Accepts, LabelsAt}
 use Rattle.anchors_check.specs.declared.AnchorSections.{AnchorSections}
 use Rattle.anchors_check.specs.declared.CheckedAnchors.the-variants as checked
+use Rattle.anchors.proofs.FileOrder.{graph-first, anchors-next}
 use Rattle.anchors_parts.proofs.LabelLaws.{accepts, parsed-is}
 
 -- ---- what a check answered was found
@@ -59,18 +60,15 @@ graph-told s {g} e =
     }
 
 pub both-graph : (s t : List ℕ) {k place : ℕ} → checkedOf (graphOf s) ≡ graph.Fault k place → bothReply s t ≡ refused k graphFile place
-unfolding bothReply
-both-graph s t e = rw (checked-fault (graphOf s) e)
+both-graph s t {k} {place} e = graph-first s t k place (checked-fault (graphOf s) e)
 
 -- ---- the anchor file, over an accepted graph
 
 module _ (s t : List ℕ) (h : Accepts s) where
   over : bothReply s t
       ≡ onAccepted (inFile anchorFile (anchorsOf (contentOf s) t)) (λ q. accepted (record { graph = parsedOf s; anchors = q }))
-  unfolding bothReply contentOf
-  over =
-      ap (λ (x : Found Parsed). onAccepted (inFile graphFile x) (λ p.
-      onAccepted (inFile anchorFile (anchorsOf (p .graph) t)) (λ q. accepted (record { graph = p; anchors = q })))) h
+  unfolding contentOf
+  over = anchors-next s t (parsedOf s) h
 
   pub both-anchors : {k place : ℕ} → checkedAnchorsOf (anchorsOf (contentOf s) t) ≡ checked.Fault k place → bothReply s t ≡ refused k anchorFile place
   both-anchors e = over ∙ rw (anchors-fault (anchorsOf (contentOf s) t) e)

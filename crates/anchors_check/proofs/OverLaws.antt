@@ -26,7 +26,7 @@ use Rattle.graph.proofs.Accepting.{LettersRead, letters-read}
 use Rattle.graph_parts.proofs.Passing.{count-on}
 use Rattle.anchors.specs.Anchors.{Anchor}
 use Rattle.anchors.specs.AnchorRules.{readFault, anchorCountFault, noAnchor}
-use Rattle.anchors.specs.AnchorReading.{ParsedAnchors, anchorsFrom, anchorsOf}
+use Rattle.anchors.specs.AnchorReading.{ParsedAnchors, anchorsFrom, wholeAnchors, anchorsOf}
 
 -- ---- the definition, stage by stage
 
@@ -58,7 +58,7 @@ module _ (g : Graph) (s : List ℕ) where
   over-long h = simp (lt-leb (length s) mostFileBytes h)
 
   pub over-first : length s ≤ mostFileBytes → anchorsOf g s ≡ number s 0 (kindOn g s)
-  unfolding anchorsOf
+  unfolding anchorsOf wholeAnchors
   over-first h = simp (le-leb (length s) mostFileBytes h)
 
   pub over-kind : (kind a : ℕ) → (kind ≡ anchorKind → ⊥) → kindOn g s kind a ≡ fault wrongKind 0

@@ -1,19 +1,18 @@
--- The first fault of the content, section after section, and what it says that there is none.
+-- The first fault of the content, section after section.
 -- Assumes nothing.
-use Prim.Native.Nat.{ℕ, _+_, _≤_}
-use mathlib.Core.Path.{_≡_, refl, sym, ap, _∙_}
+use Prim.Native.Nat.{ℕ, _≤_}
+use mathlib.Core.Path.{_≡_, sym, ap, _∙_}
 use mathlib.Core.List.{List}
 use native.Mathlib.Omega.{arith}
 use lib.ListN.{length, take}
-use Rattle.wire.specs.Sizes.{mostRead, mostAnchors}
 use Rattle.graph.specs.Content.{Graph}
-use Rattle.graph.proofs.Kept.{range-kept}
-use Rattle.graph_content.specs.Faults.{first, lettersFault}
-use Rattle.graph_content.proofs.Encoded.{numbers-part}
-use Rattle.graph_content.proofs.Faulting.{first-bad, first-none, first-zero}
+use Rattle.graph_content.specs.Faults.{lettersFault}
+use Rattle.graph_content.proofs.Faulting.{first-bad, first-none}
 use Rattle.anchors.specs.AnchorRules.{readFault, anchorCountFault, noAnchor}
 use Rattle.anchors.specs.AnchorEntries.{AnchorsGiven}
-use Rattle.anchors_content.specs.FirstFaults.{eachFault, contentFault}
+use Rattle.graph.proofs.Givens.{numbers-part}
+use Rattle.anchors_content.specs.FirstFaults.{eachFault}
+use Rattle.anchors_content.proofs.Giving.{contentFault}
 
 module _ (g : Graph) (c : AnchorsGiven) (r : ℕ) (read : r ≡ readFault (c .r)) where
   pub content-read : (r ≡ 0 → ⊥) → contentFault g c ≡ r
@@ -39,12 +38,3 @@ module _ (g : Graph) (c : AnchorsGiven) (r : ℕ) (read : r ≡ readFault (c .r)
           ∙ first-none l _ _ letters lone
           ∙ first-none k _ _ count z
           ∙ ap (λ (t : List ℕ). eachFault g t (c .n) 0 noAnchor (c .buffers .anchors)) (sym (numbers-part (c .r) 0 (c .buffers .letters) (omega arith)))
-
--- content without fault has its counts in range
-pub content-ranged : (g : Graph) (c : AnchorsGiven) → contentFault g c ≡ 0 → (c .r ≤ mostRead) × (c .n ≤ mostAnchors)
-unfolding contentFault
-content-ranged g c e =
-    let a = first-zero (readFault (c .r)) _ e in
-    let b = first-zero (lettersFault (c .r) (c .buffers .letters) 0) _ (a .1) in
-    let d = first-zero (anchorCountFault (c .n)) _ (b .1) in
-    (range-kept 1 mostRead (c .r) (a .0) .1, range-kept 0 mostAnchors (c .n) (d .0) .1)

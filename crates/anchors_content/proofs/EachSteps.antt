@@ -7,7 +7,7 @@ use mathlib.Core.Bool.{true, false}
 use native.Mathlib.Omega.{arith}
 use Rattle.wire.specs.Refusals.{notRising}
 use Rattle.graph.specs.Content.{Graph}
-use Rattle.graph_content.specs.Faults.{first}
+use Rattle.wire.specs.Found.{first}
 use Rattle.graph_content.proofs.Encoded.{left-more, left-none}
 use Rattle.graph_content.proofs.Faulting.{first-bad, first-none}
 use Rattle.anchors.specs.Anchors.{Anchor}

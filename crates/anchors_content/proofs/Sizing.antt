@@ -1,28 +1,24 @@
 -- The encoding of what stands in the used places, part after part, and its length.
 -- Assumes nothing.
 use Prim.Native.Nat.{ℕ, zero, suc, _+_, _*_, _≤_}
-use mathlib.Core.Path.{_≡_, refl, sym, ap, ap₂, _∙_}
+use mathlib.Core.Path.{_≡_, refl, sym, ap, _∙_}
 use mathlib.Core.List.{List, _++_}
 use native.Mathlib.Omega.{arith}
-use lib.ListN.{length, getD, take, length-append}
+use lib.ListN.{length, take, length-append}
 use lib.Seq.{length-take-le}
+use Rattle.graph.specs.Entries.{numbersIn}
 use Rattle.wire.specs.Numbers.{encode}
 use Rattle.wire.specs.Sizes.{anchorKind}
 use Rattle.graph.specs.Encode.{encodeNumbers}
-use Rattle.graph_content.specs.Used.{numbersIn}
 use Rattle.wire.specs.Lent.{front}
 use Rattle.graph_bytes.proofs.Along.{Along}
-use Rattle.graph_content.proofs.Encoded.{length-numbers, numbers-part}
-use Rattle.anchors.specs.Anchors.{Anchor, perAnchor}
+use Rattle.anchors.specs.Anchors.{perAnchor}
 use Rattle.anchors.specs.AnchorBytes.{encodeEach, encodeAnchors}
-use Rattle.anchors.specs.AnchorEntries.{AnchorsGiven, anchorIn}
+use Rattle.anchors.specs.AnchorEntries.{AnchorsGiven, anchorIn, anchorsIn, setIn}
 use Rattle.anchors.proofs.AnchorAccepting.{numbers-joined}
-use Rattle.anchors_content.specs.InPlaces.{anchorsIn, setIn, sizeIn}
-
-length-anchors : (left i : ℕ) (numbers : List ℕ) → length (anchorsIn left i numbers) ≡ left
-unfolding anchorsIn
-length-anchors zero i numbers = refl
-length-anchors (suc left) i numbers = ap suc (length-anchors left (i + 1) numbers)
+use Rattle.graph.proofs.Givens.{length-numbers, numbers-part}
+use Rattle.anchors.proofs.AnchorGiven.{length-anchors}
+use Rattle.anchors_content.specs.InPlaces.{sizeIn}
 
 -- the anchors are written as their numbers
 each-numbers : (left i : ℕ) (numbers : List ℕ)
@@ -39,20 +35,27 @@ each-numbers (suc left) i numbers =
     numbers-joined (anchorIn numbers i) (encodeEach (anchorsIn left (i + 1) numbers))
     ∙ simp (each-numbers left (i + 1) numbers, d, e, two, three, four)
 
--- the bytes of the content, section after section: `read` is r, and `end` the place after the anchors' numbers
+-- the bytes of the content: the kind, r, the read, N, the anchors
+pub set-bytes : (c : AnchorsGiven)
+    → encodeAnchors (setIn c)
+    ≡ encode anchorKind
+    ++ (encode (c .r)
+    ++ (numbersIn (c .r) 0 (c .buffers .letters) ++ (encode (c .n) ++ encodeEach (anchorsIn (c .n) 0 (c .buffers .anchors)))))
+unfolding encodeAnchors
+set-bytes c = simp (length-numbers (c .r) 0 (c .buffers .letters), length-anchors (c .n) 0 (c .buffers .anchors))
+
+-- the same by the parts of the buffers: `read` is r, and `end` the place after the anchors' numbers
 module _ (c : AnchorsGiven) (read end : ℕ) (er : read ≡ c .r) (en : end ≡ perAnchor * c .n)
     (hr : c .r ≤ length (c .buffers .letters)) (hn : perAnchor * c .n ≤ length (c .buffers .anchors)) where
   bytes-parts : encodeAnchors (setIn c)
       ≡ encode anchorKind
       ++ (encode (c .r)
       ++ (take read (c .buffers .letters) ++ (encode (c .n) ++ encodeNumbers (take end (c .buffers .anchors)))))
-  unfolding encodeAnchors
   bytes-parts =
-      simp (
+      set-bytes c
+      ∙ simp (
         er,
         en,
-        length-numbers (c .r) 0 (c .buffers .letters),
-        length-anchors (c .n) 0 (c .buffers .anchors),
         each-numbers (c .n) 0 (c .buffers .anchors),
         numbers-part (c .r) 0 (c .buffers .letters) (omega arith),
         numbers-part (perAnchor * c .n) 0 (c .buffers .anchors) (omega arith),

@@ -1,3 +1,3 @@
--- The content that the anchor writer is given: in its places, and its first fault.
+-- The content that the anchor writer is given: its size, and the first fault of its anchors.
 pub mod InPlaces
 pub mod FirstFaults

@@ -13,7 +13,8 @@ ghost use lib.ListN.{length};
 ghost use Rattle.wire.specs.Lent.{front};
 ghost use Rattle.wire.specs.Sizes.{mostRead, mostAnchors, fullLetters, fullAnchors};
 ghost use Rattle.anchors.specs.AnchorBytes.{encodeAnchors};
-ghost use Rattle.anchors_content.specs.InPlaces.{setIn, sizeIn};
+ghost use Rattle.anchors.specs.AnchorEntries.{setIn};
+ghost use Rattle.anchors_content.specs.InPlaces.{sizeIn};
 
 // How many bytes the encoding takes, by the group counts of its numbers.
 pub fn anchors_size(r: u32, n: u32, anchors: &[u32]) -> usize

@@ -14,13 +14,14 @@ use wire::sizes::MOST_READ;
 ghost use mathlib.Core.Path.{_≡_};
 ghost use Prim.Native.Nat.{_+_, _*_, _≤_};
 ghost use lib.ListN.{length, take};
+ghost use Rattle.wire.specs.Found.{refusalNumber};
 ghost use Rattle.wire.specs.Sizes.{mostAnchors, fullLetters, fullAnchors};
 ghost use Rattle.anchors.specs.Anchors.{perAnchor};
 ghost use Rattle.anchors.specs.AnchorRules.{noAnchor};
-ghost use Rattle.anchors.specs.AnchorEntries.{anchorIn};
+ghost use Rattle.anchors.specs.AnchorEntries.{anchorIn, anchorsGiven};
 ghost use Rattle.anchors_parts.specs.LabelTables.{LabelsAt, LabelTables, contentOf};
 ghost use Rattle.anchors_parts.specs.OneAnchor.{anchorOf};
-ghost use Rattle.anchors_content.specs.FirstFaults.{eachFault, contentFault};
+ghost use Rattle.anchors_content.specs.FirstFaults.{eachFault};
 
 // Anchor i of the anchors' numbers, counted from 0.
 fn anchor_in(anchors: &[u32], i: usize) -> Five
@@ -87,8 +88,8 @@ pub fn content_fault(
 ) -> u32
     requires { ⌜ LabelsAt (now graph) labels vertices ⌝ }
     requires { ⌜ (fullLetters ≤ length (now letters)) × (fullAnchors ≤ length (now anchors)) ⌝ }
-    ensures { λ k. ⌜ k ≡ contentFault (contentOf (now (graph .entry)))
-        (record { r = r; n = n; buffers = record { letters = now (letters .entry); anchors = now (anchors .entry) } }) ⌝ }
+    ensures { λ k. ⌜ k ≡ refusalNumber (anchorsGiven (contentOf (now (graph .entry)))
+        (record { r = r; n = n; buffers = record { letters = now (letters .entry); anchors = now (anchors .entry) } })) ⌝ }
 {
     let read = range_fault(1, MOST_READ, r);
     if read != 0 {

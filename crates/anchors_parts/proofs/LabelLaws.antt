@@ -20,7 +20,7 @@ use Rattle.wire.proofs.Putting.{put-one}
 use Rattle.graph.specs.Content.{lengthsOf}
 use Rattle.graph.specs.Encode.{encodeLabels}
 use Rattle.graph.specs.Reading.{Parsed, graphOf}
-use Rattle.graph.proofs.Parted.{parts}
+use Rattle.graph.proofs.Parted.{short-whole, parts}
 use Rattle.anchors.specs.AnchorRules.{labelOf}
 use Rattle.anchors_parts.specs.LabelTables.{parsedOf, contentOf, Accepts, startsOf, startsIn, LabelsAt, LabelTables, zeros}
 
@@ -258,7 +258,7 @@ unfolding contentOf
 labels-stand s at n b h =
     let p = parts s (parsedOf s) (h .accepted) in
     record {
-      short = p .front .short;
+      short = short-whole s (parsedOf s) (h .accepted) .0;
       rest = drop (p .front .labelsEnd) s;
       bytes = ap (λ (k : ℕ). drop k s) (h .place) ∙ p .front .labelsHold .bytes b;
     }

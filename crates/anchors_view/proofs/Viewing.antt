@@ -20,7 +20,7 @@ use Rattle.graph_check.specs.Checked.{sectionsOf}
 use Rattle.graph_check.specs.declared.Sections.{Sections}
 use Rattle.graph.specs.Content.{vertexCount}
 use Rattle.graph.specs.Reading.{Parsed}
-use Rattle.graph.proofs.Parted.{parts}
+use Rattle.graph.proofs.Parted.{short-whole}
 use Rattle.anchors.specs.Anchors.{Anchor, anchorCount}
 use Rattle.anchors.specs.AnchorRules.{labelOf, noAnchor}
 use Rattle.anchors.specs.AnchorReading.{Numbers}
@@ -32,12 +32,12 @@ use Rattle.anchors_check.specs.declared.AnchorSections.{AnchorSections}
 use Rattle.anchors_check.specs.declared.CheckedBoth.the-variants as both
 use Rattle.anchors_parts.specs.declared.one.Five.{Five}
 use Rattle.anchors_parts.specs.declared.one.ReadFive.the-variants.{Got, Fault}
-use Rattle.anchors.specs.View.{View, anchorNumbered, labelStart, labelView, readView, emptyView, viewIn, viewOf, bytesOf, lettersView}
+use Rattle.anchors.specs.View.{View, anchorNumbered, labelStart, labelView, readView, emptyView, viewIn, viewOf, lettersView}
 use Rattle.anchors_view.specs.Viewed.{viewedOf, Inside, viewedBytes}
 use Rattle.anchors_view.specs.declared.view.Viewed.{Viewed}
 use Rattle.anchors_parts.proofs.EachLaws.{five-good, five-fault, after-is}
 use Rattle.anchors_parts.proofs.LabelLaws.{parsed-is, accepts, lies-within, starts-at}
-use Rattle.anchors.proofs.AnchorAccepting.{anchor-parts}
+use Rattle.anchors.proofs.AnchorAccepting.{not-long, anchor-parts}
 use Rattle.anchors.proofs.BothFiles.{both-taken}
 use Rattle.anchors.proofs.ViewLaws.{view-anchor, label-stands}
 
@@ -68,7 +68,6 @@ pub seen : (s t : List ℕ) (p : Both) (j : ℕ) → Bytes s → bothReply s t �
 seen s t p j b e h k =
     let w = both-taken s t p e in
     let a : Anchor = anchorNumbered p j in
-    let ps = parts s (p .graph) (w .graphIs) in
     let hs = anchor-parts (p .graph .graph) t (p .anchors) (w .anchorsIs) in
     let u = after-is (p .graph .graph) (p .anchors .set .read) (anchorCount (p .anchors .set)) noAnchor t (p .anchors .anchorsAt) _ (hs .anchorsIs) (j - 1)
     (omega arith) in
@@ -87,8 +86,8 @@ seen s t p j b e h k =
       someC = i .someC;
       inGraph = omega (arith, i .someX, i .someLength, i .inLabel);
       inFile = omega (arith, i .someC, i .someLength, i .inRead);
-      shortGraph = ps .front .short;
-      shortFile = hs .fewBytes;
+      shortGraph = short-whole s (p .graph) (w .graphIs) .0;
+      shortFile = not-long (p .graph .graph) t (p .anchors) (w .anchorsIs) .0;
     }
 
 -- the anchor's numbers, as they were answered

@@ -1,26 +1,24 @@
 -- From the checks of the writer to its promise: what each way through it answers.
 -- Assumes nothing.
 use Prim.Native.Nat.{ℕ, _≤_, _<_}
-use mathlib.Core.Path.{_≡_, sym, ap, _∙_}
+use mathlib.Core.Path.{_≡_, ap, _∙_}
 use mathlib.Core.List.{List}
 use mathlib.Core.Bool.{true, false}
 use lib.ListN.{length}
 use borrow.Author.Tests.{le-leb, lt-leb}
-use Rattle.wire.specs.Found.{Found, fault, accepted, refused, inFile, onAccepted}
+use Rattle.wire.specs.Found.{Found, fault, accepted, refused, inFile, onAccepted, refusalNumber}
 use Rattle.wire.specs.Lent.{front}
 use Rattle.wire.specs.Refusals.{outOfRange, smallBuffer, shortOutput, graphFile, anchorFile}
 use Rattle.wire.specs.Sizes.{mostFileBytes}
 use Rattle.graph.specs.Reading.{graphOf}
-use Rattle.graph_parts.proofs.Passing.{refuse-none, refuse-some}
 use Rattle.anchors.specs.Anchors.{AnchorSet}
 use Rattle.anchors.specs.AnchorBytes.{encodeAnchors}
-use Rattle.anchors.specs.AnchorEntries.{AnchorsGiven, anchorsGiven, roomyAnchors, anchorSizeReply, writeAnchorsReply}
-use Rattle.anchors_parts.specs.LabelTables.{contentOf, Accepts}
+use Rattle.anchors.specs.AnchorEntries.{AnchorsGiven, setIn, anchorsGiven, roomyAnchors, anchorSizeReply, writeAnchorsReply}
+use Rattle.anchors_parts.specs.LabelTables.{parsedOf, contentOf, Accepts}
 use Rattle.anchors_write.specs.declared.WrittenAnchors.{WrittenAnchors}
-use Rattle.anchors_content.specs.InPlaces.{setIn}
-use Rattle.anchors_content.specs.FirstFaults.{contentFault}
 use Rattle.anchors_write.specs.Answer.{refusedWith, Written}
-use Rattle.anchors_write.proofs.Giving.{content-given}
+use Rattle.anchors.proofs.FileOrder.{small-first, graph-before, content-next}
+use Rattle.anchors.proofs.AnchorWriting.{content-refused, content-taken}
 
 module _ (c : AnchorsGiven) (graph out : List ℕ) (r : WrittenAnchors) where
   refused-written : (k f place : ℕ) → writeAnchorsReply c graph (length out) ≡ refused k f place → r ≡ refusedWith k f place
@@ -29,39 +27,31 @@ module _ (c : AnchorsGiven) (graph out : List ℕ) (r : WrittenAnchors) where
 
   -- a buffer is below full size
   pub small-written : roomyAnchors (c .buffers) ≡ false → r ≡ refusedWith smallBuffer 0 0 → Written c graph out out r
-  unfolding writeAnchorsReply
-  small-written h e = refused-written smallBuffer 0 0 (rw h) e
+  small-written h e = refused-written smallBuffer 0 0 (small-first c graph (length out) h) e
 
   -- the graph file has a fault
   pub graph-written : (k place : ℕ) → roomyAnchors (c .buffers) ≡ true → graphOf graph ≡ fault k place → r ≡ refusedWith k graphFile place
       → Written c graph out out r
-  unfolding writeAnchorsReply
-  graph-written k place h g e = refused-written k graphFile place (rw (h, g)) e
+  graph-written k place h g e = refused-written k graphFile place (graph-before c graph (length out) k place h g) e
 
   -- the graph file is accepted
   module _ (full : roomyAnchors (c .buffers) ≡ true) (a : Accepts graph) where
     over : writeAnchorsReply c graph (length out)
         ≡ onAccepted (inFile anchorFile (anchorsGiven (contentOf graph) c)) (anchorSizeReply (length out))
-    unfolding writeAnchorsReply contentOf
-    over = rw (full, a)
+    unfolding contentOf
+    over = content-next c graph (length out) (parsedOf graph) full a
 
     -- the content has a fault
-    pub content-written : (k : ℕ) → k ≡ contentFault (contentOf graph) c → (k ≡ 0 → ⊥) → r ≡ refusedWith k anchorFile 0
+    pub content-written : (k : ℕ) → k ≡ refusalNumber (anchorsGiven (contentOf graph) c) → (k ≡ 0 → ⊥) → r ≡ refusedWith k anchorFile 0
         → Written c graph out out r
-    content-written k e n q =
-        let g : anchorsGiven (contentOf graph) c ≡ fault k 0 =
-        content-given (contentOf graph) c
-        ∙ refuse-some (contentFault (contentOf graph) c) 0 _ (λ z. n (e ∙ z))
-        ∙ ap (λ (j : ℕ). fault j 0) (sym e) in
-        refused-written k anchorFile 0 (over ∙ rw g) q
+    content-written k e n q = refused-written k anchorFile 0 (over ∙ rw (content-refused (contentOf graph) c k e n)) q
 
     -- it has none: the size decides
-    module _ (none : contentFault (contentOf graph) c ≡ 0) where
+    module _ (none : refusalNumber (anchorsGiven (contentOf graph) c) ≡ 0) where
       sized : writeAnchorsReply c graph (length out) ≡ anchorSizeReply (length out) (setIn c)
       sized =
           over
-          ∙ ap (λ (x : Found AnchorSet). onAccepted (inFile anchorFile x) (anchorSizeReply (length out)))
-          (content-given (contentOf graph) c ∙ refuse-none (contentFault (contentOf graph) c) 0 _ none)
+          ∙ ap (λ (x : Found AnchorSet). onAccepted (inFile anchorFile x) (anchorSizeReply (length out))) (content-taken (contentOf graph) c none)
 
       pub long-written : mostFileBytes < length (encodeAnchors (setIn c)) → r ≡ refusedWith outOfRange anchorFile mostFileBytes
           → Written c graph out out r

@@ -4,6 +4,7 @@ pub mod BestScores
 pub mod SweepLaws
 pub mod NamedLaws
 pub mod StepsThere
+pub mod ValidChains
 pub mod Results
 pub mod Demands
 pub mod WorkedSteps

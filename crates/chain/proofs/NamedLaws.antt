@@ -1,17 +1,17 @@
 -- The chain that is returned: it is one, it is valid, and no chain scores more.
 -- Assumes nothing.
-use Prim.Native.Nat.{ℕ, zero, suc, _+_, _-_, _≤_, _<_}
-use mathlib.Core.Path.{_≡_, refl, sym, ap, ap₂, _∙_, subst}
-use mathlib.Core.Logic.{_≢_, _⊎_, inl, inr}
+use Prim.Native.Nat.{ℕ, _+_, _≤_}
+use mathlib.Core.Path.{_≡_, refl, sym, ap, subst}
+use mathlib.Core.Logic.{_≢_}
 use mathlib.Core.List.{List, [], _∷_, _++_}
 use native.Mathlib.Nat.{le-antisymm}
 use native.Mathlib.Omega.{arith}
-use lib.ListN.{length, getD}
+use lib.ListN.{length}
 use Rattle.rounds.specs.Rounds.{Within}
 use Rattle.rounds.specs.Table.{entry}
 use Rattle.graph.specs.Content.{Graph}
 use Rattle.anchors.specs.Anchors.{Anchor}
-use Rattle.chain.specs.Steps.{anchorAt, Step}
+use Rattle.chain.specs.Steps.{anchorAt}
 use Rattle.chain.specs.Chains.{Chain, one, more, IsBest}
 use Rattle.chain.specs.Named.{Gives, LowestGiving, Back, stop, go, Top, Returned, empty, some}
 use Rattle.chain.proofs.BestScores.{chain-within}

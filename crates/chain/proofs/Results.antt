@@ -1,19 +1,17 @@
 -- The result of an engine is one, whichever engine gave it.
 -- Assumes nothing.
-use Prim.Native.Nat.{ℕ, zero, suc, _+_, _-_, _≤_, _<_}
+use Prim.Native.Nat.{ℕ, zero, suc}
 use mathlib.Core.Path.{_≡_, refl, sym, ap, _∙_, subst, fun-ext}
 use mathlib.Core.List.{List}
 use native.Mathlib.Omega.{arith}
 use native.Mathlib.Numerals.{sub-one}
-use lib.ListN.{length, getD}
+use lib.ListN.{length}
 use lib.Seq.{ext-getD}
 use Rattle.rounds.specs.Rounds.{Within, Rounds}
-use Rattle.rounds.specs.Table.{entry}
 use Rattle.rounds.proofs.Counts.{unique}
 use Rattle.graph.specs.Content.{Graph}
 use Rattle.anchors.specs.Anchors.{Anchor}
 use Rattle.chain.specs.Steps.{anchorAt}
-use Rattle.chain.specs.Chains.{IsBest}
 use Rattle.chain.specs.Named.{Returned}
 use Rattle.chain.specs.Sweep.{IsSteps, weights, sweepRound, Swept, none, rounds}
 use Rattle.chain.specs.ChainEntries.{Result, IsResult}

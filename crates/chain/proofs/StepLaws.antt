@@ -1,21 +1,17 @@
 -- A step between two anchors has one gap sum, and the read place rises along it.
 -- Assumes nothing.
-use Prim.Native.Nat.{ℕ, _+_, _-_, _≤_, _<_}
-use mathlib.Core.Path.{_≡_, refl, sym, ap, _∙_, subst}
-use mathlib.Core.Logic.{_≢_, _⊎_, inl, inr}
+use Prim.Native.Nat.{ℕ, _-_, _≤_, _<_}
+use mathlib.Core.Path.{_≡_, refl}
 use mathlib.Core.List.{List}
-use native.Mathlib.Nat.{le-antisymm}
 use native.Mathlib.Omega.{arith}
 use lib.ListN.{length}
 use Rattle.rounds.specs.Rounds.{Within}
 use Rattle.graph.specs.Content.{Graph}
-use Rattle.anchors.specs.Anchors.{Anchor, AnchorSet, y, d}
+use Rattle.anchors.specs.Anchors.{Anchor, AnchorSet}
 use Rattle.anchors.specs.AnchorRules.{noAnchor}
 use Rattle.anchors.specs.GoodAnchors.{GoodAnchor, GoodAnchors}
-use Rattle.anchors.proofs.ViewLaws.{all-at}
-use Rattle.cover.specs.Walks.{Goes}
-use Rattle.cover.specs.Cells.{IsClosed}
-use Rattle.cover.specs.CoverDistance.{IsCover}
+use Rattle.graph.proofs.RoundTrips.{all-at}
+use Rattle.cover.proofs.One.{closed-one, cover-one}
 use Rattle.chain.specs.Steps.{anchorAt, Jump, ahead, round, across, Step}
 
 -- what is asked of the anchors: weights and lengths of 1 or more
@@ -23,35 +19,25 @@ pub record Sound (anchors : List Anchor) : Type 0 where
   pub heavy : (j : ℕ) → Within (length anchors) j → 1 ≤ anchorAt anchors j .weight
   pub spans : (j : ℕ) → Within (length anchors) j → 1 ≤ anchorAt anchors j .len
 
+-- anchor number j of good anchors
+pub good-at : {g : Graph} {a : AnchorSet} → GoodAnchors g a → (j : ℕ) → Within (length (a .anchors)) j → GoodAnchor g (a .read) (anchorAt (a .anchors) j)
+good-at {g} {a} A j w = all-at (GoodAnchor g (a .read)) (a .anchors) (j - 1) noAnchor (A .each) (omega arith)
+
 -- the weights and lengths of good anchors are 1 or more
 pub good-sound : {g : Graph} {a : AnchorSet} → GoodAnchors g a → Sound (a .anchors)
-good-sound {g} {a} A = record { heavy = λ j w. at j w .someWeight; spans = λ j w. at j w .someLength }
-  where
-    at : (j : ℕ) → Within (length (a .anchors)) j → GoodAnchor g (a .read) (anchorAt (a .anchors) j)
-    at j w = all-at (GoodAnchor g (a .read)) (a .anchors) (j - 1) noAnchor (A .each) (omega arith)
+good-sound A = record { heavy = λ j w. good-at A j w .someWeight; spans = λ j w. good-at A j w .someLength }
 
-closed-one : (g : Graph) (v s t : ℕ) → IsClosed g v s → IsClosed g v t → s ≡ t
-closed-one g v s t p q = go (p .attained) (q .attained)
-  where
-    go : ((s ≡ 0) × ((l : ℕ) → Goes g v v l → ⊥)) ⊎ Goes g v v s → ((t ≡ 0) × ((l : ℕ) → Goes g v v l → ⊥)) ⊎ Goes g v v t → s ≡ t
-    go (inl a) (inl b) = omega arith
-    go (inl a) (inr b) = absurd (a .1 t b)
-    go (inr a) (inl b) = absurd (b .1 s a)
-    go (inr a) (inr b) = le-antisymm (p .least t b) (q .least s a)
-
-cover-one : (g : Graph) (u v s t : ℕ) → IsCover g u v s → IsCover g u v t → s ≡ t
-cover-one g u v s t p q = le-antisymm (p .least t (q .way)) (q .least s (p .way))
-
-jump-one : (g : Graph) (A B : Anchor) (s t : ℕ) → Jump g A B s → Jump g A B t → s ≡ t
+-- two anchors have one s at most
+pub jump-one : (g : Graph) (A B : Anchor) (s t : ℕ) → Jump g A B s → Jump g A B t → s ≡ t
 jump-one g A B s t (ahead e h) (ahead f k) = refl
 jump-one g A B s t (ahead e h) (round f n c) = absurd (n h)
 jump-one g A B s t (ahead e h) (across n c) = absurd (n e)
 jump-one g A B s t (round e n c) (ahead f h) = absurd (n h)
-jump-one g A B s t (round e n c) (round f m b) = closed-one g (A .v) s t c b
+jump-one g A B s t (round e n c) (round f m b) = closed-one g c b
 jump-one g A B s t (round e n c) (across m b) = absurd (m e)
 jump-one g A B s t (across n c) (ahead f h) = absurd (n f)
 jump-one g A B s t (across n c) (round f m b) = absurd (n f)
-jump-one g A B s t (across n c) (across m b) = cover-one g (A .v) (B .v) s t c b
+jump-one g A B s t (across n c) (across m b) = cover-one g c b
 
 -- two anchors have one gap sum at most
 pub step-one : (g : Graph) (A B : Anchor) (k l : ℕ) → Step g A B k → Step g A B l → k ≡ l

@@ -1,15 +1,15 @@
 -- The sweep: from the weights its rounds settle, within N, at the best score of all chains.
 -- Assumes nothing.
 use Prim.Native.Nat.{ℕ, zero, suc, _+_, _-_, _≤_, _<_}
-use mathlib.Core.Path.{_≡_, refl, sym, ap, _∙_, subst}
+use mathlib.Core.Path.{_≡_, refl, ap, _∙_, subst}
 use mathlib.Core.List.{List, [], _∷_, _++_, map}
 use native.Mathlib.Omega.{arith}
-use lib.ListN.{length, getD, List·getD-map}
-use Rattle.rounds.specs.Rounds.{Within, Rounds}
+use lib.ListN.{length, List·getD-map}
+use Rattle.rounds.specs.Rounds.{Within}
 use Rattle.rounds.specs.Place.{entryPlace}
-use Rattle.rounds.specs.Table.{entry, vectorRound}
-use Rattle.rounds.specs.Best.{Link, Derived, start, along, Best, Finished, Column}
-use Rattle.rounds.specs.Kinds.{scoreRule, scoreColumn}
+use Rattle.rounds.specs.Table.{entry}
+use Rattle.rounds.specs.Best.{Link, start, along, Best, Finished, Column}
+use Rattle.rounds.specs.Kinds.{scoreColumn}
 use Rattle.rounds.specs.Loop.{Settles}
 use Rattle.rounds.proofs.Fits.{score-lawful, score-fit}
 use Rattle.rounds.proofs.Relax.{optimal}

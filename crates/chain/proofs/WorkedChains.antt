@@ -1,5 +1,5 @@
 -- Document 01's worked cases of chains, proved of the definitions. Assumes nothing.
-use Prim.Native.Nat.{ℕ, zero, suc, _≤_}
+use Prim.Native.Nat.{ℕ, zero, suc, _+_, _≤_}
 use mathlib.Core.Path.{_≡_, refl}
 use mathlib.Core.Logic.{inr}
 use mathlib.Core.Bool.{true}
@@ -8,6 +8,7 @@ use native.Mathlib.Decide.{ℕ-discrete, decLe}
 use native.Mathlib.Nat.{le-refl}
 use native.Mathlib.Omega.{arith}
 use lib.ListN.{length}
+use lib.IntN.{pos, negsuc}
 use Rattle.wire.specs.Letters.{isLetter, letterOf, agree}
 use Rattle.wire.specs.Sizes.{mostRead, mostAnchors}
 use Rattle.rounds.specs.Rounds.{Within, sweep, Rounds}
@@ -19,7 +20,7 @@ use Rattle.rounds.proofs.Upto.{within, within-none}
 use Rattle.rounds.proofs.Counts.{run-shows, run, list?}
 use Rattle.graph.specs.Content.{Graph, vertexCount}
 use Rattle.graph.specs.Good.{All, Next, Vertex, GoodGraph}
-use Rattle.anchors.specs.Anchors.{AnchorSet}
+use Rattle.anchors.specs.Anchors.{Anchor, AnchorSet}
 use Rattle.anchors.specs.AnchorRules.{noAnchor, agreeFrom, lettersAgree, ownFault, keyBelow}
 use Rattle.anchors.specs.GoodAnchors.{GoodAnchors}
 use Rattle.cover.specs.Walks.{L, from, to, here}
@@ -34,8 +35,11 @@ use Rattle.cover.proofs.CoverLaws.{row-is}
 use Rattle.cover.proofs.TablesThere.{reach-cells, distance-cells}
 use Rattle.cover.proofs.WorkedGood.{g1-good, g2-good}
 use Rattle.cover.proofs.WorkedTables.{g1-tables, g2-tables, g2-cover}
+use Rattle.chain.specs.Steps.{anchorAt, across}
+use Rattle.chain.specs.Chains.{score}
 use Rattle.chain.specs.Sweep.{IsSteps, weights, sweepRound}
-use Rattle.chain.specs.WorkedAnchors.{acttca, acttcaResult, ccgcc, ccgccResult, acc, accResult, alone, aloneResult, looped, loopedResult, aaa, Works}
+use Rattle.chain.specs.WorkedAnchors.{acttca, acttcaResult, firstThird, firstThirdResult, Candidate, ccgcc, ccgccResult, acc, accResult, alone, aloneResult, looped, loopedResult, aaa, Works}
+use Rattle.chain.proofs.StepLaws.{jump-one}
 use Rattle.chain.proofs.WorkedSteps.{each, eachTwo, faultless, faultless-rises, step-across, step-round, Known, is-known, gapsIn, complete, level, known-steps, no-steps, gives, goesBack, inOrder, highest, works}
 
 -- a cover distance, by the row computed from the tables
@@ -251,3 +255,48 @@ acttca-rounds = run-shows (sweepRound (acttca .anchors) (gapsIn acttcaSteps)) (l
 pub acttca-works : Works g1 acttca acttcaResult
 unfolding acttcaSteps gapsIn each gives goesBack inOrder highest
 acttca-works = works g1-good acttca-good acttca-steps acttca-rounds 3 (2 ∷ 1 ∷ []) (within (omega arith) (omega arith)) refl refl
+
+-- ---- "G1's read with its first and third anchors only: the gaps are 2 and 1, the candidate 1, the score 2, the chain the first alone, one round."
+
+first-third-good : GoodAnchors g1 (firstThird 2)
+unfolding All isLetter letterOf agree faultless ownFault lettersAgree agreeFrom keyBelow
+first-third-good = good-by (firstThird 2) (omega arith) (omega arith) (refl, (refl, (refl, (refl, (refl, (refl, tt)))))) (omega arith) refl
+
+-- 1 to 2 with gaps of 2 and 1, whatever the weight
+module _ (weight : ℕ) where
+  abbrev first : Anchor
+  first = anchorAt (firstThird weight .anchors) 1
+
+  abbrev third : Anchor
+  third = anchorAt (firstThird weight .anchors) 2
+
+  first-third : Candidate g1 first third 2 1 (score (weight + weight) 3)
+  first-third = record {
+    step = step-across 3 g1-good (λ e. omega arith) g1-one-four (omega arith) (omega arith);
+    gaps = λ k s.
+        let e : s .s ≡ 3 = jump-one g1 first third (s .s) 3 (s .jump) (across (λ e. omega arith) g1-one-four) in
+        (omega (arith, s .inRead), omega (arith, s .inGraph));
+    is = refl;
+  }
+
+pub first-third-candidate : Candidate g1 (anchorAt (firstThird 2 .anchors) 1) (anchorAt (firstThird 2 .anchors) 2) 2 1 (pos 1)
+first-third-candidate = first-third 2
+
+-- "With weights 1 the candidate is −1."
+pub first-third-below : Candidate g1 (anchorAt (firstThird 1 .anchors) 1) (anchorAt (firstThird 1 .anchors) 2) 2 1 (negsuc 0)
+first-third-below = first-third 1
+
+firstThirdSteps : List Known
+firstThirdSteps = record { i = 1; j = 2; k = 3 } ∷ []
+
+first-third-steps : IsSteps g1 (firstThird 2 .anchors) (gapsIn firstThirdSteps)
+unfolding firstThirdSteps All gapsIn complete eachTwo each
+first-third-steps = known-steps g1 (firstThird 2 .anchors) firstThirdSteps (is-known refl (first-third 2 .step), tt) refl
+
+first-third-rounds : Rounds (sweepRound (firstThird 2 .anchors) (gapsIn firstThirdSteps)) (weights (firstThird 2 .anchors)) 1 (2 ∷ 2 ∷ [])
+unfolding firstThirdSteps gapsIn run sweep cellStep value gather ℕ-discrete decLe list?
+first-third-rounds = run-shows (sweepRound (firstThird 2 .anchors) (gapsIn firstThirdSteps)) (list? ℕ-discrete) 2 (weights (firstThird 2 .anchors)) (le-refl 2)
+
+pub first-third-works : Works g1 (firstThird 2) firstThirdResult
+unfolding firstThirdSteps gapsIn each gives goesBack inOrder highest
+first-third-works = works g1-good first-third-good first-third-steps first-third-rounds 1 [] (within (omega arith) (omega arith)) refl refl

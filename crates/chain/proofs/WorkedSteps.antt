@@ -20,7 +20,6 @@ use Rattle.anchors.specs.Anchors.{Anchor, AnchorSet, y, d}
 use Rattle.anchors.specs.AnchorRules.{anchorFault, noAnchor}
 use Rattle.anchors.specs.GoodAnchors.{GoodAnchor, KeyBelow, GoodAnchors}
 use Rattle.anchors.proofs.AnchorOrder.{anchor-kept}
-use Rattle.anchors.proofs.ViewLaws.{all-at}
 use Rattle.cover.specs.Walks.{Goes}
 use Rattle.cover.specs.Cells.{IsClosed}
 use Rattle.cover.specs.CoverDistance.{IsCover}

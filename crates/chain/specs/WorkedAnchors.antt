@@ -1,11 +1,14 @@
 -- The anchors of document 01's worked cases, and what the sweep makes of them.
-use Prim.Native.Nat.{ℕ}
+use Prim.Native.Nat.{ℕ, _+_}
+use mathlib.Core.Path.{_≡_}
 use mathlib.Core.List.{[], _∷_}
+use lib.IntN.{ℤ}
 use Rattle.graph.specs.Content.{Graph}
 use Rattle.graph.specs.Good.{GoodGraph}
 use Rattle.anchors.specs.Anchors.{Anchor, AnchorSet}
 use Rattle.anchors.specs.GoodAnchors.{GoodAnchors}
-use Rattle.cover.specs.Worked.{g2}
+use Rattle.chain.specs.Steps.{Step}
+use Rattle.chain.specs.Chains.{score}
 use Rattle.chain.specs.ChainEntries.{Result, IsSweep}
 
 -- an anchor by its numbers in file order: "(v x c length weight)"
@@ -21,6 +24,20 @@ acttca = record {
 
 abbrev pub acttcaResult : Result
 acttcaResult = record { scores = 2 ∷ 4 ∷ 6 ∷ []; chain = 1 ∷ 2 ∷ 3 ∷ []; score = 6; rounds = 2 }
+
+-- "G1's read with its first and third anchors only", of weight 2 or of another
+abbrev pub firstThird : ℕ → AnchorSet
+firstThird weight = record { read = acttca .read; anchors = anchor 1 1 1 2 weight ∷ anchor 4 1 5 2 weight ∷ [] }
+
+-- "the score 2, the chain the first alone, one round"
+abbrev pub firstThirdResult : Result
+firstThirdResult = record { scores = 2 ∷ 2 ∷ []; chain = 1 ∷ []; score = 2; rounds = 1 }
+
+-- "the gaps are 2 and 1, the candidate 1": of the step from the first of two anchors to the second, where the first's score is its weight
+pub record Candidate (g : Graph) (A B : Anchor) (readGap graphGap : ℕ) (z : ℤ) : Type 0 where
+  pub step : Step g A B (readGap + graphGap)
+  pub gaps : (k : ℕ) (s : Step g A B k) → (s .readGap ≡ readGap) × (s .graphGap ≡ graphGap)
+  pub is : score (A .weight + B .weight) (readGap + graphGap) ≡ z
 
 -- "G2, read CCGCC, anchors (v x c length weight) 2 1 1 2 2; 2 1 4 2 2; 3 1 3 1 1: score 5, chain 1 3 2, three rounds."
 abbrev pub ccgcc : AnchorSet

@@ -5,8 +5,8 @@
 // case gives the numbers of its parts, from 0. Parts 0 and 1 are the words for the sweep and for the plain pass.
 use anchors_read::read_anchors;
 use placing::ChainAnswer;
-use placing::plain;
-use placing::sweep;
+use plain_placing::plain;
+use sweep_placing::sweep;
 use telling::BYTE_BEFORE;
 use telling::NUMBER_BEFORE;
 use telling::count_numbers;

@@ -16,7 +16,7 @@ use Rattle.tables.specs.Answer.{Answered as TablesAnswered}
 use Rattle.tables.specs.declared.TablesAnswer.{TablesAnswer}
 use Rattle.placing.specs.Answer.{Answered as ChainAnswered}
 use Rattle.placing.specs.declared.ChainAnswer.{ChainAnswer}
-use Rattle.corpus.specs.Digest.{digestStart, digestNumbers}
+use Rattle.caseinput.specs.Digest.{digestStart, digestNumbers}
 use Rattle.corpus.specs.Results.{freshGraph, freshAnchors, freshTables, freshChain, TablesDigest, SameButRounds, Audited, ChainDigest}
 
 pub tables-digest : (file reach distance closed : List ℕ) (after : TableBuffers) (r : TablesAnswer) (x y z : ℕ)

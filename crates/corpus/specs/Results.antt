@@ -12,7 +12,7 @@ use Rattle.tables.specs.Answer.{Answered as TablesAnswered}
 use Rattle.tables.specs.declared.TablesAnswer.{TablesAnswer}
 use Rattle.placing.specs.Answer.{Answered as ChainAnswered}
 use Rattle.placing.specs.declared.ChainAnswer.{ChainAnswer}
-use Rattle.corpus.specs.Digest.{digestStart, digestNumbers}
+use Rattle.caseinput.specs.Digest.{digestStart, digestNumbers}
 
 -- the buffers that are lent: to the graph file's reader
 abbrev pub freshGraph : Buffers

@@ -16,24 +16,22 @@
 //
 // TABLES is the digest of reach, distance and closed walks, CHAIN that of the scores and the chain, each in buffers of full size. Where two
 // entries do not say the same of a case, the line says so.
-mod digest; // digest.rt: 64-bit FNV-1a digests of numbers
-mod input; // input.rt: the parts of a record
 mod compare; // compare.rt: whether two answers, or two lists of numbers, are the same
 
 use anchors_read::AnchorsAnswer;
 use anchors_read::read_anchors;
+use caseinput::digest::DIGEST_START;
+use caseinput::digest::put_numbers;
+use caseinput::input::read_file;
+use caseinput::input::read_kind;
 use compare::Verdict;
 use compare::same_numbers;
 use compare::same_verdict;
-use digest::DIGEST_START;
-use digest::put_numbers;
 use graph_read::GraphAnswer;
 use graph_read::read_graph;
-use input::read_file;
-use input::read_kind;
 use placing::ChainAnswer;
-use placing::plain;
-use placing::sweep;
+use plain_placing::plain;
+use sweep_placing::sweep;
 use tables::TablesAnswer;
 use tables_make::make::cell_zeros;
 use tables_make::make::letter_zeros;

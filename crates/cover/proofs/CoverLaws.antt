@@ -1,6 +1,6 @@
 -- The cover distance: when there is one, how long it is, and the row that says it. Assumes nothing.
 use Prim.Native.Nat.{ℕ, zero, suc, _+_, _-_, _*_, _≤_, _<_}
-use mathlib.Core.Path.{_≡_, refl, sym, ap, _∙_, subst}
+use mathlib.Core.Path.{_≡_, refl, sym, _∙_, subst}
 use mathlib.Core.Logic.{_≢_, _⊎_, inl, inr}
 use mathlib.Core.List.{List}
 use native.Mathlib.Nat.{le-refl}
@@ -19,12 +19,12 @@ use Rattle.cover.specs.Cells.{vertex, IsReach, IsDistance}
 use Rattle.cover.specs.CoverDistance.{pathAt, along, Way, IsCover}
 use Rattle.cover.specs.TableRounds.{known}
 use Rattle.cover.specs.Finished.{ReachTable, DistanceTable}
-use Rattle.cover.specs.Row.{unknown, rowFor, Says, IsRow}
+use Rattle.cover.specs.Row.{unknown, rowFor, IsRow}
 use Rattle.cover.proofs.GoodLaws.{label-some, labels-few, path-vertex, on-path}
-use Rattle.cover.proofs.One.{reach-one, distance-one, cover-one}
+use Rattle.cover.proofs.One.{reach-one, distance-one}
 use Rattle.cover.proofs.TableLaws.{known-cell}
 use Rattle.cover.proofs.ReachRounds.{reach-within, reach-settles}
-use Rattle.cover.proofs.DistanceRounds.{distance-settles}
+use Rattle.cover.proofs.DistanceRounds.{distance-sixteen, distance-settles}
 use Rattle.cover.proofs.LowTables.{low-entry, distance-ends}
 use Rattle.cover.proofs.RowLaws.{unknown-size, unknown-entry, Leasts, OnSome, leasts-backs}
 use Rattle.cover.proofs.WalkLaws.{walk-join, walk-first, walk-to, walk-from, walk-along, along-few}
@@ -97,14 +97,6 @@ module _ {g : Graph} (G : GoodGraph g) {reach distance : List ℕ} (R : ReachTab
       go zero e = absurd (subst (Near (suc s)) e (leasts none long (λ u _. unknown-entry (vertexCount g) u) .least u s wu (way-some y)))
       go (suc t) e = (t, row-is none long (λ u _. unknown-entry (vertexCount g) u) .entries u wu .some t e)
 
--- the entry is s + 1 where the cover distance is s, and only there
-pub says-cover : {g : Graph} {u v x s : ℕ} → Says g u v x → IsCover g u v s → x ≡ suc s
-says-cover {g} {u} {v} {x} {s} y c = go x refl
-  where
-    go : (z : ℕ) → x ≡ z → x ≡ suc s
-    go zero e = absurd (y .none e s c)
-    go (suc t) e = e ∙ ap suc (cover-one g (y .some t e) c)
-
 -- ---- when there is one
 
 module _ {g : Graph} (G : GoodGraph g) where
@@ -176,7 +168,7 @@ module _ {g : Graph} (G : GoodGraph g) where
   pub distance-few : {i v r d : ℕ} → Within (vertexCount g) v → Within (pathCount g) i → IsReach g (pathAt g i) v r → IsDistance g (pathAt g i) r v d → d < mostLetters
   distance-few {i} {v} {r} {d} w k c x =
       let (reach, R) = reach-there in
-      let t = distance-settles G R in
+      let t = distance-sixteen G R in
       let k16 : Within tableRow i = within (k .low) (omega (arith, G .fewPaths)) in
       let er : r ≡ cell cellPlace v i reach = reach-one g c (R .cells v i w k16) in
       let ed : d ≡ cell cellPlace v i (known (t .last)) = distance-one g r x (rw er (t .done .cells v i w k16)) in

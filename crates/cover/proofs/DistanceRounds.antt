@@ -8,25 +8,26 @@ use native.Mathlib.Decide.{ℕ-discrete}
 use native.Mathlib.Omega.{arith}
 use lib.ListN.{length}
 use Rattle.wire.specs.Sizes.{tableRow}
-use Rattle.rounds.specs.Rounds.{Within}
+use Rattle.rounds.specs.Rounds.{Within, Rounds}
 use Rattle.rounds.specs.Place.{cellPlace}
 use Rattle.rounds.specs.Table.{cell, tableRound}
 use Rattle.rounds.specs.Best.{Sources, Derived, start, along, Best}
-use Rattle.rounds.specs.Kinds.{Near, shift}
+use Rattle.rounds.specs.Kinds.{Near, shift, closer}
 use Rattle.rounds.specs.Loop.{Settles}
-use Rattle.rounds.proofs.Upto.{ite-cases}
-use Rattle.rounds.proofs.Counts.{settles-map}
+use Rattle.rounds.proofs.Upto.{within, ite-cases}
+use Rattle.rounds.proofs.Counts.{settles-map, settles-as}
 use Rattle.rounds.proofs.Fits.{shift-known, least-fit}
-use Rattle.rounds.proofs.Table.{sixteen-settles}
+use Rattle.rounds.proofs.Table.{sixteen-settles, empty-columns}
 use Rattle.graph.specs.Content.{Graph, vertexCount}
 use Rattle.graph.specs.Good.{GoodGraph}
 use Rattle.cover.specs.Walks.{L, from, Joined, Walk, here, more}
 use Rattle.cover.specs.Cells.{vertex, Hits, IsReach, Leads, IsDistance}
 use Rattle.cover.specs.CoverDistance.{pathAt}
-use Rattle.cover.specs.TableRounds.{tableOf, home, edgeLinks, levelLinks, distanceColumn, distanceStart, distanceRound, known}
+use Rattle.cover.specs.TableRounds.{home, edgeLinks, levelLinks, distanceColumn, columnOver, distanceStart, distanceRound, known}
 use Rattle.cover.specs.Finished.{ReachTable, DistanceTable}
-use Rattle.cover.proofs.GoodLaws.{edge-from}
+use Rattle.cover.proofs.GoodLaws.{edge-from, path-none}
 use Rattle.cover.proofs.TableLaws.{table-size, table-cell, known-size, known-cell}
+use Rattle.cover.proofs.ReachRounds.{reach-within}
 
 -- ---- home: where the distance starts at 0
 
@@ -106,26 +107,38 @@ module _ (g : Graph) (sources : Sources (vertexCount g) (edgeLinks g)) (p : List
         least = λ l h. omega (arith, b .top (suc l) (leads-derived w h));
       }
 
--- THE DISTANCE TABLE over any paths and their finished reach table: its rounds are 1 to n, and leave every cell its distance, each one more
-pub distance-settles-over : (g : Graph) (paths : ℕ → List ℕ) (reach : List ℕ) → 1 ≤ vertexCount g → Sources (vertexCount g) (edgeLinks g) → ReachTable g paths reach
-    → Settles (vertexCount g) (tableRound cellPlace (λ i. distanceColumn g (paths i) (λ v. cell cellPlace v i reach) .rule) tableRow (vertexCount g)) (λ t. DistanceTable g paths reach (known t))
-    (tableOf (vertexCount g) (λ v i. distanceColumn g (paths i) (λ v. cell cellPlace v i reach) .starts v))
-distance-settles-over g paths reach filled sources R = settles-map (λ t f. record {
-  size = known-size t ∙ f .long ∙ table-size n starts;
-  cells = λ v i w k. rw (known-cell t (cellPlace v i)) (best-distance g sources (paths i) (r i) (λ u wu. R .cells u i wu k) w (f .final v i w k));
-}) (sixteen-settles n tableRow (λ i. distanceColumn g (paths i) (r i)) (tableOf n starts) (omega arith) (le-refl tableRow) (omega (arith, table-size n starts))
-    (λ i k. least-fit n (levelLinks g (r i)) filled sources (λ e. L g (from g e)) (λ v. starts v i)) (table-cell n starts))
-  where
-    n : ℕ
-    n = vertexCount g
+-- a round of all sixteen columns
+abbrev pub distanceSixteen : Graph → List ℕ → List ℕ → List ℕ
+distanceSixteen g reach = tableRound cellPlace (λ i. columnOver g reach i .rule) tableRow (vertexCount g)
 
-    r : ℕ → ℕ → ℕ
-    r i v = cell cellPlace v i reach
+module _ {g : Graph} (G : GoodGraph g) {reach : List ℕ} (R : ReachTable g (pathAt g) reach) where
+  starts : ℕ → ℕ → ℕ
+  starts v i = home (pathAt g i) (cell cellPlace v i reach) v
 
-    starts : ℕ → ℕ → ℕ
-    starts v i = home (paths i) (r i v) v
+  -- THE DISTANCE TABLE of a good graph, over the finished reach table: its rounds are 1 to n, and leave every cell its distance, each one more
+  pub distance-sixteen : Settles (vertexCount g) (distanceSixteen g reach) (λ t. DistanceTable g (pathAt g) reach (known t)) (distanceStart g reach)
+  unfolding starts
+  distance-sixteen = settles-map (λ t f. record {
+    size = known-size t ∙ f .long ∙ table-size n starts;
+    cells = λ v i w k. rw (known-cell t (cellPlace v i)) (best-distance g (edge-from G) (pathAt g i) (r i) (λ u wu. R .cells u i wu k) w (f .final v i w k));
+  }) (sixteen-settles n tableRow (columnOver g reach) (distanceStart g reach) (omega arith) (le-refl tableRow) (omega (arith, table-size n starts))
+      (λ i k. least-fit n (levelLinks g (r i)) (G .someVertex) (edge-from G) (λ e. L g (from g e)) (λ v. starts v i)) (table-cell n starts))
+    where
+      n : ℕ
+      n = vertexCount g
 
--- THE DISTANCE TABLE of a good graph
-pub distance-settles : {g : Graph} → GoodGraph g → {reach : List ℕ} → ReachTable g (pathAt g) reach
-    → Settles (vertexCount g) (distanceRound g reach) (λ t. DistanceTable g (pathAt g) reach (known t)) (distanceStart g reach)
-distance-settles {g} G {reach} R = distance-settles-over g (pathAt g) reach (G .someVertex) (edge-from G) R
+      r : ℕ → ℕ → ℕ
+      r i v = cell cellPlace v i reach
+
+  -- the rounds of sixteen columns are those of the K paths that are there
+  pub distance-by-paths : {k : ℕ} {t : List ℕ} → Rounds (distanceSixteen g reach) (distanceStart g reach) k t → Rounds (distanceRound g reach) (distanceStart g reach) k t
+  unfolding starts shift closer home
+  distance-by-paths =
+      empty-columns (vertexCount g) _ (λ i. columnOver g reach i .rule) (omega (arith, G .fewPaths)) (λ i. edge-from G) (λ i v e. refl) (λ i. refl)
+      (λ v i w l h.
+      let k : Within tableRow i = within (omega arith) h in
+      let z : cell cellPlace v i reach ≡ 0 = omega (arith, reach-within (R .cells v i w k), path-none g i (omega arith)) in
+      table-cell (vertexCount g) starts v i w k ∙ ap (λ (r : ℕ). home (pathAt g i) r v) z)
+
+  pub distance-settles : Settles (vertexCount g) (distanceRound g reach) (λ t. DistanceTable g (pathAt g) reach (known t)) (distanceStart g reach)
+  distance-settles = settles-as (λ k t r. distance-by-paths r) distance-sixteen

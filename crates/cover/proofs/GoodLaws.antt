@@ -25,9 +25,7 @@ less-one k = omega arith
 module _ {A : Type 0} (d : A) where
   pub all-at : (P : A → Type 0) (xs : List A) → All P xs → (j : ℕ) → j < length xs → P (getD xs j d)
   unfolding All
-  all-at P [] h j l = absurd (not-suc-le-zero l)
-  all-at P (x ∷ xs) h zero l = h .0
-  all-at P (x ∷ xs) h (suc j) l = all-at P xs (h .1) j (le-of-suc-le-suc l)
+  all-at P xs h j l = Rattle.graph.proofs.RoundTrips.all-at P xs j d h l
 
   pub next-at : (R : A → A → Type 0) (xs : List A) → Next R xs → (j : ℕ) → suc j < length xs → R (getD xs j d) (getD xs (suc j) d)
   unfolding Next
@@ -72,6 +70,11 @@ labels-sum (l ∷ ls) = total-front (λ v. length (getD (l ∷ ls) (v - 1) [])) 
     below : (v : ℕ) → 1 ≤ v → length (getD (l ∷ ls) (suc v - 1) []) ≡ length (getD ls (v - 1) [])
     below zero h = absurd (omega arith)
     below (suc j) h = rw (less-one (suc j), less-one j)
+
+-- a path that is not there is empty
+pub path-none : (g : Graph) (i : ℕ) → pathCount g < i → length (pathAt g i) ≡ 0
+unfolding pathAt
+path-none g i l = ap length (List·getD-eq-default (g .paths) [] {n = i - 1} (omega arith))
 
 -- ---- a good graph
 

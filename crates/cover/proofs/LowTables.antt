@@ -1,4 +1,4 @@
--- What every state of the tables' rounds fulfils, in the middle of a row too: a reach entry is at most n, a distance entry at most 1 more than the sum of all labels.
+-- What every state of the rounds of distance fulfils, in the middle of a row too: an entry is at most 1 more than the sum of all labels.
 -- Assumes nothing.
 use Prim.Native.Nat.{ℕ, zero, suc, _+_, _*_, _≤_, zero-le}
 use mathlib.Core.Path.{_≡_, refl, sym, _∙_, subst}
@@ -15,21 +15,20 @@ use Rattle.rounds.specs.Rule.{Rule, value}
 use Rattle.rounds.specs.Place.{Places, cellPlace}
 use Rattle.rounds.specs.Table.{cell, cellStep}
 use Rattle.rounds.specs.Best.{Sources}
-use Rattle.rounds.specs.Kinds.{greatestRule, leastRule, shift, Near}
+use Rattle.rounds.specs.Kinds.{leastRule, shift, Near}
 use Rattle.rounds.proofs.InPlace.{Keeps, leaves}
 use Rattle.rounds.proofs.Gather.{gather-first, gather-one}
-use Rattle.rounds.proofs.Fits.{max-order, near-order}
+use Rattle.rounds.proofs.Fits.{near-order}
 use Rattle.rounds.proofs.Table.{cell-places, row-keeps}
 use Rattle.rounds.proofs.Upto.{total}
 use Rattle.graph.specs.Content.{Graph, vertexCount, edgeCount}
 use Rattle.graph.specs.Good.{GoodGraph}
 use Rattle.cover.specs.Walks.{L, from}
 use Rattle.cover.specs.CoverDistance.{pathAt}
-use Rattle.cover.specs.TableRounds.{tableOf, own, home, edgeLinks, levelLinks, reachColumn, reachStart, reachRound, columnOver, distanceStart, distanceRound}
-use Rattle.cover.proofs.GoodLaws.{edge-from, labels-few, path-short}
+use Rattle.cover.specs.TableRounds.{tableOf, home, edgeLinks, levelLinks, columnOver, distanceStart}
+use Rattle.cover.proofs.GoodLaws.{edge-from, labels-few}
 use Rattle.cover.proofs.TableLaws.{table-size, table-cell}
-use Rattle.cover.proofs.ReachRounds.{own-few}
-use Rattle.cover.proofs.DistanceRounds.{home-sound}
+use Rattle.cover.proofs.DistanceRounds.{home-sound, distanceSixteen}
 use Rattle.cover.proofs.Low.{Low, Gets, as-it-was, newly, nearer, low-step, low-start, fits}
 
 -- what is at least as near, and brought by a link
@@ -41,11 +40,6 @@ gets-near n lab f v u w zero (suc a) z e q h s = absurd h
 gets-near n lab f v u w (suc x) (suc a) z e q h s = nearer {x = suc x} (omega arith) (omega arith)
 
 module _ (g : Graph) where
-  -- no entry passes `most`
-  pub record Bounded (most : ℕ) (t : List ℕ) : Type 0 where
-    pub long : length t ≡ tableRow * vertexCount g
-    pub most-is : (v i : ℕ) → Within (vertexCount g) v → Within tableRow i → cell cellPlace v i t ≤ most
-
   -- each column is low
   pub record LowTable (t : List ℕ) : Type 0 where
     pub long : length t ≡ tableRow * vertexCount g
@@ -70,23 +64,6 @@ module _ (g : Graph) (sources : Sources (vertexCount g) (edgeLinks g)) where
   step-long : (rules : ℕ → Rule) (v i : ℕ) (t : List ℕ) → length (cellStep cellPlace rules v i t) ≡ length t
   unfolding cellStep
   step-long rules v i t = length-set t (cellPlace v i) _
-
-  -- a step of the reach rounds keeps the bound
-  pub bounded-step : (most v : ℕ) → Within (vertexCount g) v → Keeps tableRow (cellStep cellPlace (λ _. greatestRule (edgeLinks g)) v) (Bounded g most)
-  unfolding value
-  bounded-step most v w i t k p = record { long = step-long rules v i t ∙ p .long; most-is = λ u j wu wj. at u j wu wj (ℕ-discrete u v) (ℕ-discrete j i) }
-    where
-      rules : ℕ → Rule
-      rules _ = greatestRule (edgeLinks g)
-
-      new : {x : ℕ} → (x ≡ cell cellPlace v i t) ⊎ ((e : ℕ) × Within (edgeCount g) e × (edgeLinks g .Into v e) × (x ≡ cell cellPlace (from g e) i t)) → x ≤ most
-      new (inl e) = rw e (p .most-is v i w k)
-      new (inr (e, l, _, q)) = rw q (p .most-is (from g e) i (sources e l) k)
-
-      at : (u j : ℕ) → Within (vertexCount g) u → Within tableRow j → Dec (u ≡ v) → Dec (j ≡ i) → cell cellPlace u j (cellStep cellPlace rules v i t) ≤ most
-      at u j wu wj (yes e) (yes q) = rw (e, q, step-same rules v i t (p .long) w k) (new (gather-one max-order _ _ _ (edgeCount g)))
-      at u j wu wj (no h) _ = rw (step-other rules v i u j t w k wu wj (λ x. h (x .0))) (p .most-is u j wu wj)
-      at u j wu wj (yes _) (no h) = rw (step-other rules v i u j t w k wu wj (λ x. h (x .1))) (p .most-is u j wu wj)
 
   -- a step of the distance rounds keeps every column low, whatever the levels
   pub low-keeps : (r : ℕ → ℕ → ℕ) (v : ℕ) → Within (vertexCount g) v → Keeps tableRow (cellStep cellPlace (λ i. leastRule (levelLinks g (r i)) (λ e. L g (from g e))) v) (LowTable g)
@@ -138,30 +115,9 @@ low-entry {g} G {t} p v i w k = go (fits (vertexCount g) (L g) _ (p .columns i k
     go (inl z) = inl z
     go (inr h) = inr (omega (arith, labels-few G))
 
--- so no entry passes 32,769
-pub low-most : {g : Graph} → GoodGraph g → {t : List ℕ} → LowTable g t → (v i : ℕ) → Within (vertexCount g) v → Within tableRow i → cell cellPlace v i t ≤ mostLetters + 1
-low-most {g} G {t} p v i w k = go (low-entry G p v i w k)
-  where
-    go : {x : ℕ} → (x ≡ 0) ⊎ (x + L g v ≤ mostLetters + 1) → x ≤ mostLetters + 1
-    go (inl z) = omega arith
-    go (inr h) = omega arith
-
 -- ---- every state of the rounds of a good graph
 
 module _ {g : Graph} (G : GoodGraph g) where
-  -- a reach entry is at most n: at the start, after each step, and at the end
-  pub reach-begins : Bounded g (vertexCount g) (reachStart g)
-  reach-begins = record {
-    long = table-size (vertexCount g) _;
-    most-is = λ v i w k. rw (table-cell (vertexCount g) (λ v i. own (pathAt g i) v (length (pathAt g i))) v i w k) (omega (arith, own-few (pathAt g i) v (length (pathAt g i)), path-short G i));
-  }
-
-  pub reach-keeps : (v : ℕ) → Within (vertexCount g) v → Keeps tableRow (cellStep cellPlace (λ i. reachColumn g (pathAt g i) .rule) v) (Bounded g (vertexCount g))
-  reach-keeps = bounded-step g (edge-from G) (vertexCount g)
-
-  pub reach-ends : {k : ℕ} {t : List ℕ} → Rounds (reachRound g) (reachStart g) k t → Bounded g (vertexCount g) t
-  reach-ends r = leaves (vertexCount g) _ (Bounded g (vertexCount g)) (row-keeps cellPlace _ (vertexCount g) tableRow (Bounded g (vertexCount g)) reach-keeps) r reach-begins
-
   -- a distance entry is at most the sum of all labels and 1
   pub distance-begins : (reach : List ℕ) → LowTable g (distanceStart g reach)
   distance-begins reach = low-begins g (pathAt g) (λ i v. cell cellPlace v i reach)
@@ -169,5 +125,5 @@ module _ {g : Graph} (G : GoodGraph g) where
   pub distance-keeps : (reach : List ℕ) (v : ℕ) → Within (vertexCount g) v → Keeps tableRow (cellStep cellPlace (λ i. columnOver g reach i .rule) v) (LowTable g)
   distance-keeps reach = low-keeps g (edge-from G) (λ i v. cell cellPlace v i reach)
 
-  pub distance-ends : (reach : List ℕ) {k : ℕ} {t : List ℕ} → Rounds (distanceRound g reach) (distanceStart g reach) k t → LowTable g t
+  pub distance-ends : (reach : List ℕ) {k : ℕ} {t : List ℕ} → Rounds (distanceSixteen g reach) (distanceStart g reach) k t → LowTable g t
   distance-ends reach r = leaves (vertexCount g) _ (LowTable g) (row-keeps cellPlace _ (vertexCount g) tableRow (LowTable g) (distance-keeps reach)) r (distance-begins reach)

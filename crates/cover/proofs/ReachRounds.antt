@@ -8,23 +8,23 @@ use native.Mathlib.Decide.{ℕ-discrete}
 use native.Mathlib.Omega.{arith}
 use lib.ListN.{length}
 use Rattle.wire.specs.Sizes.{tableRow}
-use Rattle.rounds.specs.Rounds.{Within}
+use Rattle.rounds.specs.Rounds.{Within, Rounds}
 use Rattle.rounds.specs.Place.{cellPlace}
 use Rattle.rounds.specs.Table.{tableRound}
-use Rattle.rounds.specs.Best.{Sources, Derived, start, along, Best}
+use Rattle.rounds.specs.Best.{Derived, start, along, Best}
 use Rattle.rounds.specs.Loop.{Settles}
-use Rattle.rounds.proofs.Upto.{within-none, within-last, within-suc, step-down, ite-cases}
-use Rattle.rounds.proofs.Counts.{settles-map}
+use Rattle.rounds.proofs.Upto.{within, within-none, within-last, within-suc, step-down, ite-cases}
+use Rattle.rounds.proofs.Counts.{settles-map, settles-as}
 use Rattle.rounds.proofs.Fits.{greatest-fit}
-use Rattle.rounds.proofs.Table.{sixteen-settles}
+use Rattle.rounds.proofs.Table.{sixteen-settles, empty-columns}
 use Rattle.graph.specs.Content.{Graph, vertexCount}
 use Rattle.graph.specs.Good.{GoodGraph}
 use Rattle.cover.specs.Walks.{L, Walk, here, more}
 use Rattle.cover.specs.Cells.{vertex, Hits, IsReach}
 use Rattle.cover.specs.CoverDistance.{pathAt}
-use Rattle.cover.specs.TableRounds.{tableOf, own, edgeLinks, reachColumn, reachStart, reachRound}
+use Rattle.cover.specs.TableRounds.{own, edgeLinks, reachColumn, reachStart, reachRound}
 use Rattle.cover.specs.Finished.{ReachTable}
-use Rattle.cover.proofs.GoodLaws.{edge-from}
+use Rattle.cover.proofs.GoodLaws.{edge-from, path-none}
 use Rattle.cover.proofs.TableLaws.{table-size, table-cell}
 
 -- ---- own: the last position of v on the path
@@ -90,19 +90,28 @@ reach-within {g} {p} {v} {r} a = go (a .attained)
     go (inl z) = omega arith
     go (inr h) = h .on .high
 
--- THE REACH TABLE over any paths: from the own positions its rounds are 1 to n, and leave every cell its reach
-pub reach-settles-over : (g : Graph) (paths : ℕ → List ℕ) → 1 ≤ vertexCount g → Sources (vertexCount g) (edgeLinks g)
-    → Settles (vertexCount g) (tableRound cellPlace (λ i. reachColumn g (paths i) .rule) tableRow (vertexCount g)) (ReachTable g paths) (tableOf (vertexCount g) (λ v i. reachColumn g (paths i) .starts v))
-reach-settles-over g paths filled sources = settles-map (λ t f. record { size = f .long ∙ table-size n starts; cells = λ v i w k. best-reach g (paths i) (f .final v i w k) })
-    (sixteen-settles n tableRow (λ i. reachColumn g (paths i)) (tableOf n starts) (omega arith) (le-refl tableRow) (omega (arith, table-size n starts))
-    (λ i k. greatest-fit n (edgeLinks g) filled sources (λ v. starts v i)) (table-cell n starts))
-  where
-    n : ℕ
-    n = vertexCount g
+-- a round of all sixteen columns
+abbrev pub reachSixteen : Graph → List ℕ → List ℕ
+reachSixteen g = tableRound cellPlace (λ i. reachColumn g (pathAt g i) .rule) tableRow (vertexCount g)
 
-    starts : ℕ → ℕ → ℕ
-    starts v i = own (paths i) v (length (paths i))
+module _ {g : Graph} (G : GoodGraph g) where
+  -- THE REACH TABLE of a good graph: from the own positions its rounds are 1 to n, and leave every cell its reach
+  pub reach-sixteen : Settles (vertexCount g) (reachSixteen g) (ReachTable g (pathAt g)) (reachStart g)
+  reach-sixteen = settles-map (λ t f. record { size = f .long ∙ table-size n starts; cells = λ v i w k. best-reach g (pathAt g i) (f .final v i w k) })
+      (sixteen-settles n tableRow (λ i. reachColumn g (pathAt g i)) (reachStart g) (omega arith) (le-refl tableRow) (omega (arith, table-size n starts))
+      (λ i k. greatest-fit n (edgeLinks g) (G .someVertex) (edge-from G) (λ v. starts v i)) (table-cell n starts))
+    where
+      n : ℕ
+      n = vertexCount g
 
--- THE REACH TABLE of a good graph
-pub reach-settles : {g : Graph} → GoodGraph g → Settles (vertexCount g) (reachRound g) (ReachTable g (pathAt g)) (reachStart g)
-reach-settles {g} G = reach-settles-over g (pathAt g) (G .someVertex) (edge-from G)
+      starts : ℕ → ℕ → ℕ
+      starts v i = own (pathAt g i) v (length (pathAt g i))
+
+  -- the rounds of sixteen columns are those of the K paths that are there
+  pub reach-by-paths : {k : ℕ} {t : List ℕ} → Rounds (reachSixteen g) (reachStart g) k t → Rounds (reachRound g) (reachStart g) k t
+  reach-by-paths =
+      empty-columns (vertexCount g) _ (λ i. reachColumn g (pathAt g i) .rule) (omega (arith, G .fewPaths)) (λ i. edge-from G) (λ i v e. refl) (λ i. refl)
+      (λ v i w l h. table-cell (vertexCount g) (λ v i. own (pathAt g i) v (length (pathAt g i))) v i w (within (omega arith) h) ∙ omega (arith, own-few (pathAt g i) v (length (pathAt g i)), path-none g i (omega arith)))
+
+  pub reach-settles : Settles (vertexCount g) (reachRound g) (ReachTable g (pathAt g)) (reachStart g)
+  reach-settles = settles-as (λ k t r. reach-by-paths r) reach-sixteen

@@ -80,10 +80,10 @@ module _ {g : Graph} (G : GoodGraph g) where
       go (inr h) = omega (arith, same)
 
   -- the closed walk of a vertex
-  closedWalk : ℕ → ℕ
+  pub closedWalk : ℕ → ℕ
   closedWalk v = closedBy g (leastFrom v) v
 
-  closed-there : (v : ℕ) → IsClosed g v (closedWalk v)
+  pub closed-there : (v : ℕ) → IsClosed g v (closedWalk v)
   unfolding closedWalk
   closed-there v = closed-is g (edge-from G) v (leastFrom v) (least-there v)
 

@@ -1,4 +1,4 @@
--- The rounds of the tables: where they start, and what a round takes. A table has sixteen columns; a path that is not there is empty, and its cells stay 0.
+-- The rounds of the tables: where they start, and what a round takes. A row has sixteen cells, the rounds the columns of the K paths; the other cells stay 0.
 use Prim.Native.Nat.{ℕ, zero, suc, _-_}
 use mathlib.Core.Path.{_≡_}
 use mathlib.Core.Logic.{ite, Dec·and}
@@ -6,12 +6,12 @@ use mathlib.Core.List.{List, [], _∷_, _++_, map}
 use native.Mathlib.Decide.{ℕ-discrete}
 use lib.ListN.{length}
 use Rattle.wire.specs.Sizes.{tableRow}
-use Rattle.rounds.specs.Rule.{Links, Rule}
+use Rattle.rounds.specs.Rule.{Links}
 use Rattle.rounds.specs.Best.{Column}
 use Rattle.rounds.specs.Kinds.{greatestColumn, leastColumn}
 use Rattle.rounds.specs.Place.{cellPlace}
 use Rattle.rounds.specs.Table.{cell, tableRound}
-use Rattle.graph.specs.Content.{Graph, vertexCount, edgeCount}
+use Rattle.graph.specs.Content.{Graph, vertexCount, edgeCount, pathCount}
 use Rattle.cover.specs.Walks.{L, from, to}
 use Rattle.cover.specs.Cells.{vertex}
 use Rattle.cover.specs.CoverDistance.{pathAt}
@@ -44,9 +44,9 @@ reachColumn g p = greatestColumn (edgeLinks g) (λ v. own p v (length p))
 abbrev pub reachStart : Graph → List ℕ
 reachStart g = tableOf (vertexCount g) (λ v i. reachColumn g (pathAt g i) .starts v)
 
--- a round of reach: every vertex in turn, in every column
+-- a round of reach: every vertex in turn, in the column of every path
 abbrev pub reachRound : Graph → List ℕ → List ℕ
-reachRound g = tableRound cellPlace (λ i. reachColumn g (pathAt g i) .rule) tableRow (vertexCount g)
+reachRound g = tableRound cellPlace (λ i. reachColumn g (pathAt g i) .rule) (pathCount g) (vertexCount g)
 
 -- ---- distance: in the rounds an entry is 0 where it is unknown, and d + 1 where it is d
 
@@ -78,7 +78,7 @@ distanceStart g reach = tableOf (vertexCount g) (λ v i. columnOver g reach i .s
 
 -- a round of distance
 abbrev pub distanceRound : Graph → List ℕ → List ℕ → List ℕ
-distanceRound g reach = tableRound cellPlace (λ i. columnOver g reach i .rule) tableRow (vertexCount g)
+distanceRound g reach = tableRound cellPlace (λ i. columnOver g reach i .rule) (pathCount g) (vertexCount g)
 
 -- the distances, of what the rounds left
 abbrev pub known : List ℕ → List ℕ

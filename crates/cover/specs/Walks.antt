@@ -1,7 +1,7 @@
 -- Walks in a graph. Vertices, edges and positions are numbered from 1.
 use Prim.Native.Nat.{ℕ, _+_, _-_}
 use mathlib.Core.Path.{_≡_}
-use mathlib.Core.List.{List, []}
+use mathlib.Core.List.{[]}
 use lib.ListN.{length, getD}
 use Rattle.rounds.specs.Rounds.{Within}
 use Rattle.graph.specs.Content.{Graph, edgeCount}

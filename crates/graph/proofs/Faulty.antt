@@ -1,30 +1,31 @@
--- A fault of a graph file: its number is one of the file's own, 1 to 10, and its place is at most the greatest file length.
+-- A fault of a graph file: its number is not 0 and fits an answer, and its place is at most the greatest file length.
 -- Assumes nothing.
-use Prim.Native.Nat.{ℕ, zero, suc, _+_, _≤_}
-use mathlib.Core.Path.{_≡_}
+use Prim.Native.Nat.{ℕ, zero, suc, _+_, _^_, _≤_, _<_}
+use mathlib.Core.Path.{_≡_, refl, subst}
 use mathlib.Core.Logic.{inl, inr}
 use mathlib.Core.List.{List}
-use mathlib.Core.Bool.{_&&_}
+use mathlib.Core.Bool.{Bool, true, false, _&&_}
 use native.Mathlib.Omega.{arith}
+use native.Mathlib.Decide.{ℕ-discrete}
 use lib.ListN.{length, getD}
 use lib.Dec.{ltb, leb, eqb}
 use borrow.Author.Tests.{ltb-true, leb-true}
 use Rattle.wire.specs.Cases.{pick}
 use Rattle.wire.specs.Letters.{isLetter}
-use Rattle.wire.specs.Found.{fault, Part}
+use Rattle.wire.specs.Found.{Found, good, fault, Part}
 use Rattle.wire.specs.Refusals.{bytesEnd, wrongKind, outOfRange, notLetter, leftOver}
 use Rattle.wire.specs.Sizes.{graphKind, mostFileBytes, mostVertices, mostLetters, mostEdges, mostPaths}
 use Rattle.wire.proofs.Finding.{Ends, ends-then, ends-number, ends-refuse, ends-pick, ends-fault}
 use Rattle.wire.proofs.NumberLaws.{Refusal, number-within}
 use Rattle.graph.specs.Content.{Edge}
 use Rattle.graph.specs.Rules.{vertexCountFault, lengthFault, letterFault, edgeCountFault, noEdge, edgeFault, pathCountFault, pathLengthFault, vertexFault, coverFault}
-use Rattle.graph.specs.Reading.{Front, Parsed, lettersFrom, labelsFrom, edgesFrom, verticesFrom, pathsFrom, frontOf, restOf, graphOf}
-use Rattle.graph.proofs.Kept.{Known, passed, test-known, edge-known, vertex-known, cover-known}
+use Rattle.graph.specs.Reading.{Front, Parsed, lettersFrom, labelsFrom, edgesFrom, verticesFrom, pathsFrom, frontIn, frontOf, restOf, graphOf}
+use Rattle.graph.proofs.Kept.{Known, passed, letter-kept, test-known, edge-known, vertex-known, cover-known}
 
--- the number is known, and the place is near
+-- the number is a refusal number, and the place is near
 pub record FileFault (k place : ℕ) : Type 0 where
   pub some : 1 ≤ k
-  pub known : k ≤ leftOver
+  pub known : k < 2 ^ 32
   pub near : place ≤ mostFileBytes
 
 made : (k place : ℕ) → Known k → place ≤ mostFileBytes → FileFault k place
@@ -45,8 +46,8 @@ module _ (s : List ℕ) (short : length s ≤ mostFileBytes) where
   letters-fault (suc left) at h =
       ends-pick (ltb at (length s)) _ _
       (λ t.
-      ends-refuse (letterFault (getD s at 0)) at _
-      (λ n. made _ at (test-known (isLetter (getD s at 0)) notLetter (omega arith) n) (omega arith))
+      ends-refuse (letterFault (getD s at 0)) _ _
+      (λ n. made _ _ (test-known (isLetter (getD s at 0)) notLetter (omega arith) n) (omega (arith, ltb-true at (length s) t)))
       (λ z.
       ends-then (lettersFrom left s (at + 1)) _ (letters-fault left (at + 1) (omega (arith, ltb-true)))
       (λ l e w. record { ends = omega arith })))
@@ -104,7 +105,7 @@ FrontWithin s f = (length s ≤ mostFileBytes) × (f .next ≤ length s)
 
 -- the front: it is found with its edges within the file, or with a fault of a file
 pub front-fault : (wanted : ℕ) (s : List ℕ) → Ends (FrontWithin s) FileFault (frontOf wanted s)
-unfolding frontOf
+unfolding frontOf frontIn
 front-fault wanted s =
     ends-refuse (pick (leb (length s) mostFileBytes) 0 outOfRange) mostFileBytes _
     (λ n. made _ mostFileBytes (test-known (leb (length s) mostFileBytes) outOfRange (omega arith) n) (omega arith))
@@ -144,8 +145,64 @@ rest-fault s f t =
     (λ n. made _ (r .next) (test-known (eqb (r .next) (length s)) leftOver (omega arith) n) (omega arith))
     (λ x. record { ends = tt })))))
 
--- a refused graph file has a number of its own rules, never 0, and a place within reach
+-- a refused graph file has a number, never 0, and a place within reach
 pub graph-fault : (s : List ℕ) (k place : ℕ) → graphOf s ≡ fault k place → FileFault k place
 unfolding graphOf
 graph-fault s k place e =
     ends-fault (graphOf s) k place (ends-then (frontOf graphKind s) (restOf s) (front-fault graphKind s) (λ f g w. rest-fault s f w)) e
+
+-- ---- the place of 5
+
+-- "not a letter | that byte": the place is that of a byte which is no letter, and each byte before it, from a place on, is one
+pub record BadLetter (s : List ℕ) (from place : ℕ) : Type 0 where
+  pub later : from ≤ place
+  pub there : place < length s
+  pub bad : isLetter (getD s place 0) ≡ false
+  pub before : (i : ℕ) → from ≤ i → i < place → isLetter (getD s i 0) ≡ true
+
+-- a fault of letters is the end of the bytes, or such a byte
+abbrev LetterFault : List ℕ → ℕ → ℕ → ℕ → Type 0
+LetterFault s from k place = k ≡ notLetter → BadLetter s from place
+
+letter-bad : (b : ℕ) → (letterFault b ≡ 0 → ⊥) → isLetter b ≡ false
+letter-bad b n = is-false (isLetter b) n
+  where
+    is-false : (t : Bool) → (pick t 0 notLetter ≡ 0 → ⊥) → t ≡ false
+    is-false true n = absurd (n refl)
+    is-false false n = refl
+
+-- after a letter
+letter-later : (s : List ℕ) (at k place : ℕ) → isLetter (getD s at 0) ≡ true → LetterFault s (at + 1) k place → LetterFault s at k place
+letter-later s at k place l f e =
+    let t = f e in
+    record {
+      later = omega (arith, t .later);
+      there = t .there;
+      bad = t .bad;
+      before = λ i h j. elim (ℕ-discrete at i) [
+        | yes q ↦ subst (λ (n : ℕ). isLetter (getD s n 0) ≡ true) q l
+        | no n ↦ t .before i (omega arith) j
+      ];
+    }
+
+ends-later : {A : Type 0} {P : A → Type 0} {Q R : ℕ → ℕ → Type 0} (x : Found A) → ((k place : ℕ) → Q k place → R k place) → Ends P Q x → Ends P R x
+ends-later (good a) f h = record { ends = h .ends }
+ends-later (fault k place) f h = record { ends = f k place (h .ends) }
+
+letters-place : (left : ℕ) (s : List ℕ) (at : ℕ) → Ends (λ (l : List ℕ). Unit {0}) (LetterFault s at) (lettersFrom left s at)
+unfolding lettersFrom
+letters-place zero s at = record { ends = tt }
+letters-place (suc left) s at =
+    ends-pick (ltb at (length s)) _ _
+    (λ t.
+    ends-refuse (letterFault (getD s at 0)) _ _
+    (λ n e. record { later = omega arith; there = omega (arith, ltb-true at (length s) t); bad = letter-bad (getD s at 0) n; before = λ i h j. absurd (omega arith) })
+    (λ z.
+    ends-then (lettersFrom left s (at + 1)) _
+    (ends-later (lettersFrom left s (at + 1)) (λ k place q. letter-later s at k place (letter-kept (getD s at 0) z) q) (letters-place left s (at + 1)))
+    (λ l e w. record { ends = tt })))
+    (λ t. record { ends = λ e. absurd (omega arith) })
+
+-- the place of 5 among letters is that byte
+pub letter-place : (left : ℕ) (s : List ℕ) (at place : ℕ) → lettersFrom left s at ≡ fault notLetter place → BadLetter s at place
+letter-place left s at place e = ends-fault (lettersFrom left s at) notLetter place (letters-place left s at) e refl

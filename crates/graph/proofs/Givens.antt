@@ -1,243 +1,165 @@
--- Content as a caller gives it: what the writer takes from the buffers is what their used places hold.
+-- Content as a caller gives it: what is taken from the buffers is what their used places hold.
 -- Assumes nothing.
 use Prim.Native.Nat.{ℕ, zero, suc, _+_, _*_, _≤_, _<_}
 use mathlib.Core.Path.{_≡_, refl, sym, ap, ap₂, _∙_, subst}
-use mathlib.Core.List.{List, [], _∷_, _++_, map, flatten, List·Memᴰ}
-use mathlib.Core.Bool.{true}
+use mathlib.Core.List.{List, [], _∷_, _++_, map, flatten}
 use native.Mathlib.Omega.{arith}
 use native.Mathlib.Numerals.{add-one}
-use lib.ListN.{length, getD, take, drop, length-append}
-use lib.Seq.{drop-cons, drop-drop, take-add}
-use Rattle.wire.specs.Found.{good}
-use Rattle.wire.specs.Letters.{isLetter}
-use Rattle.wire.specs.Sizes.{mostLetters, pathRoom}
-use Rattle.wire.proofs.Finding.{then-good, refuse-good, good-same}
+use native.Mathlib.Nat.{add-zero}
+use lib.ListN.{length, getD, take, drop, length-append, List·getD-map}
+use lib.Seq.{drop-cons, take-at, drop-at, getD-take, ext-getD}
+use Rattle.wire.specs.Sizes.{pathRoom}
 use Rattle.graph.specs.Content.{Edge, edgeNumbers}
-use Rattle.graph.specs.Good.{All, Next, Vertex, EdgeBelow}
-use Rattle.graph.specs.Rules.{isStep, letterFault, lengthFault, edgeFault, vertexFault, pathLengthFault}
-use Rattle.graph.specs.Entries.{Buffers, edgeIn, lettersGiven, labelsGiven, edgesGiven, verticesGiven, pathsGiven}
-use Rattle.graph.proofs.Kept.{range-kept, length-kept, letter-kept, edge-kept, vertex-kept}
-use Rattle.graph.proofs.Accepting.{next-more, next-tail, steps-edges}
+use Rattle.graph.specs.Entries.{numbersIn, labelsIn, edgesIn, pathsIn}
 
--- one more place of a buffer
-pub one-more : (n : ℕ) (xs : List ℕ) (at : ℕ) → at < length xs → take (suc n) (drop at xs) ≡ getD xs at 0 ∷ take n (drop (at + 1) xs)
-one-more n xs at h =
-    ap (take (suc n)) (drop-cons xs at 0 h) ∙ ap (λ (j : ℕ). getD xs at 0 ∷ take n (drop j xs)) (sym (add-one at))
+-- ---- numbers
 
--- ---- letters
+pub length-numbers : (left at : ℕ) (s : List ℕ) → length (numbersIn left at s) ≡ left
+unfolding numbersIn
+length-numbers zero at s = refl
+length-numbers (suc left) at s = ap suc (length-numbers left (at + 1) s)
 
--- what is known of letters that were taken
-pub record LettersHeld (left : ℕ) (letters : List ℕ) (at : ℕ) (r : List ℕ) : Type 0 where
-  pub count : length r ≡ left
-  pub letter : All (λ b. isLetter b ≡ true) r
-  pub held : at + left ≤ length letters → take left (drop at letters) ≡ r
+-- the part of a buffer that is used
+pub numbers-part : (left at : ℕ) (s : List ℕ) → at + left ≤ length s → take left (drop at s) ≡ numbersIn left at s
+unfolding numbersIn
+numbers-part zero at s h = refl
+numbers-part (suc left) at s h =
+    rw (drop-cons s at 0 (omega arith), ← add-one at) (ap (λ (t : List ℕ). getD s at 0 ∷ t) (numbers-part left (at + 1) s (omega arith)))
 
-pub letters-held : (left : ℕ) (letters : List ℕ) (at : ℕ) (r : List ℕ) → lettersGiven left letters at ≡ good r → LettersHeld left letters at r
-unfolding lettersGiven All
-letters-held zero letters at r e =
-    let q : [] ≡ r = good-same [] r e in
-    subst (LettersHeld 0 letters at) q (record { count = refl; letter = tt; held = λ h. refl })
-letters-held (suc left) letters at r e =
-    let b : ℕ = getD letters at 0 in
-    let a = refuse-good (letterFault b) 0 _ r e in
-    let c = then-good (lettersGiven left letters (at + 1)) _ r (a .1) in
-    let i = letters-held left letters (at + 1) (c .0) (c .1) in
-    subst (LettersHeld (suc left) letters at) (good-same (b ∷ c .0) r (c .2))
-    (record {
-      count = ap suc (i .count);
-      letter = (letter-kept b (a .0), i .letter);
-      held = λ h. one-more left letters at (omega arith) ∙ ap (λ (t : List ℕ). b ∷ t) (i .held (omega arith));
-    })
+-- in two parts
+numbers-add : (a b at : ℕ) (s : List ℕ) → numbersIn (a + b) at s ≡ numbersIn a at s ++ numbersIn b (at + a) s
+unfolding numbersIn
+numbers-add zero b at s = let z : 0 + b ≡ b = omega arith in ap₂ (λ (n i : ℕ). numbersIn n i s) z (sym (add-zero at))
+numbers-add (suc a) b at s =
+    let e : suc a + b ≡ suc (a + b) = omega arith in
+    let f : at + 1 + a ≡ at + suc a = omega arith in
+    ap (λ (n : ℕ). numbersIn n at s) e
+    ∙ ap (λ (t : List ℕ). getD s at 0 ∷ t) (numbers-add a b (at + 1) s ∙ ap (λ (i : ℕ). numbersIn a (at + 1) s ++ numbersIn b i s) f)
 
 -- ---- labels
 
--- what is known of labels that were taken, from label i on, after labels of `sum` letters together
-pub record LabelsHeld (left i sum : ℕ) (b : Buffers) (r : List (List ℕ)) : Type 0 where
-  pub count : length r ≡ left
-  pub some : All (λ l. 1 ≤ length l) r
-  pub few : sum ≤ mostLetters → sum + length (flatten r) ≤ mostLetters
-  pub letters : All (λ l. All (λ c. isLetter c ≡ true) l) r
-  pub lengths : i + left ≤ length (b .lengths) → take left (drop i (b .lengths)) ≡ map length r
-  pub packed : sum + length (flatten r) ≤ length (b .letters) → take (length (flatten r)) (drop sum (b .letters)) ≡ flatten r
+pub length-labels : (left i sum : ℕ) (letters lengths : List ℕ) → length (labelsIn left i sum letters lengths) ≡ left
+unfolding labelsIn
+length-labels zero i sum letters lengths = refl
+length-labels (suc left) i sum letters lengths = ap suc (length-labels left (i + 1) (sum + getD lengths i 0) letters lengths)
 
--- a label's letters, and those of the labels after it
-packed-more : (l more xs : List ℕ) (sum : ℕ) → sum + length (l ++ more) ≤ length xs
-    → (sum + length l ≤ length xs → take (length l) (drop sum xs) ≡ l)
-    → (sum + length l + length more ≤ length xs → take (length more) (drop (sum + length l) xs) ≡ more)
-    → take (length (l ++ more)) (drop sum xs) ≡ l ++ more
-packed-more l more xs sum h p q =
-    let k : length (l ++ more) ≡ length l + length more = length-append l more in
-    ap (λ (n : ℕ). take n (drop sum xs)) k
-    ∙ take-add (length l) (length more) (drop sum xs)
-    ∙ ap₂ (λ (t u : List ℕ). t ++ u) (p (omega arith)) (ap (take (length more)) (drop-drop (length l) sum xs) ∙ q (omega arith))
+-- their lengths and their letters are those of the buffers
+pub labels-lengths : (left i sum : ℕ) (letters lengths : List ℕ) → map length (labelsIn left i sum letters lengths) ≡ numbersIn left i lengths
+unfolding labelsIn numbersIn
+labels-lengths zero i sum letters lengths = refl
+labels-lengths (suc left) i sum letters lengths =
+    ap₂ (λ (x : ℕ) (xs : List ℕ). x ∷ xs) (length-numbers (getD lengths i 0) sum letters)
+    (labels-lengths left (i + 1) (sum + getD lengths i 0) letters lengths)
 
-labels-held-more : (left i sum len : ℕ) (b : Buffers) (l : List ℕ) (r : List (List ℕ)) → len ≡ getD (b .lengths) i 0 → lengthFault sum len ≡ 0
-    → LettersHeld len (b .letters) sum l → LabelsHeld left (i + 1) (sum + len) b r → LabelsHeld (suc left) i sum b (l ∷ r)
-unfolding All flatten
-labels-held-more left i sum len b l r e z t h =
-    let k = length-kept sum len z in
-    let n : length l ≡ len = t .count in
-    let a : length (l ++ flatten r) ≡ length l + length (flatten r) = length-append l (flatten r) in
-    record {
-      count = ap suc (h .count);
-      some = (omega arith, h .some);
-      few = λ f. omega (arith, h .few (k .1));
-      letters = (t .letter, h .letters);
-      lengths = λ f.
-          one-more left (b .lengths) i (omega arith)
-          ∙ ap₂ (λ (x : ℕ) (xs : List ℕ). x ∷ xs) (sym (n ∙ e)) (h .lengths (omega arith));
-      packed = λ f. packed-more l (flatten r) (b .letters) sum f (rw n (t .held)) (rw n (h .packed));
-    }
-
-pub labels-held : (left i sum : ℕ) (b : Buffers) (r : List (List ℕ)) → labelsGiven left i sum b ≡ good r → LabelsHeld left i sum b r
-unfolding labelsGiven All flatten
-labels-held zero i sum b r e =
-    subst (LabelsHeld 0 i sum b) (good-same [] r e)
-    (record { count = refl; some = tt; few = λ k. omega arith; letters = tt; lengths = λ k. refl; packed = λ k. refl })
-labels-held (suc left) i sum b r e =
-    let len : ℕ = getD (b .lengths) i 0 in
-    let a = refuse-good (lengthFault sum len) 0 _ r e in
-    let c = then-good (lettersGiven len (b .letters) sum) _ r (a .1) in
-    let d = then-good (labelsGiven left (i + 1) (sum + len) b) _ r (c .2) in
-    subst (LabelsHeld (suc left) i sum b) (good-same (c .0 ∷ d .0) r (d .2))
-    (labels-held-more left i sum len b (c .0) (d .0) refl (a .0) (letters-held len (b .letters) sum (c .0) (c .1))
-    (labels-held left (i + 1) (sum + len) b (d .0) (d .1)))
+pub labels-letters : (left i sum : ℕ) (letters lengths : List ℕ)
+    → flatten (labelsIn left i sum letters lengths) ≡ numbersIn (length (flatten (labelsIn left i sum letters lengths))) sum letters
+unfolding labelsIn numbersIn flatten
+labels-letters zero i sum letters lengths = refl
+labels-letters (suc left) i sum letters lengths =
+    let len : ℕ = getD lengths i 0 in
+    let rest : List ℕ = flatten (labelsIn left (i + 1) (sum + len) letters lengths) in
+    let n : length (numbersIn len sum letters ++ rest) ≡ len + length rest =
+    length-append (numbersIn len sum letters) rest ∙ ap (λ (k : ℕ). k + length rest) (length-numbers len sum letters) in
+    ap (λ (t : List ℕ). numbersIn len sum letters ++ t) (labels-letters left (i + 1) (sum + len) letters lengths)
+    ∙ sym (numbers-add len (length rest) sum letters)
+    ∙ ap (λ (k : ℕ). numbersIn k sum letters) (sym n)
 
 -- ---- edges
 
--- what is known of edges that were taken, from edge i on, after the edge `last`
-pub record EdgesHeld (n left i : ℕ) (last : Edge) (edges : List ℕ) (r : List Edge) : Type 0 where
-  pub count : length r ≡ left
-  pub vertices : All (λ e. Vertex n (e .from) × Vertex n (e .to)) r
-  pub rise : Next EdgeBelow (last ∷ r)
-  pub held : 2 * (i + left) ≤ length edges → take (2 * left) (drop (2 * i) edges) ≡ edgeNumbers r
+pub length-edges : (left i : ℕ) (edges : List ℕ) → length (edgesIn left i edges) ≡ left
+unfolding edgesIn
+length-edges zero i edges = refl
+length-edges (suc left) i edges = ap suc (length-edges left (i + 1) edges)
 
--- one more edge of a buffer
-pub edge-more : (left i : ℕ) (edges : List ℕ) → 2 * (i + suc left) ≤ length edges
-    → take (2 * suc left) (drop (2 * i) edges)
-    ≡ getD edges (2 * i) 0 ∷ (getD edges (2 * i + 1) 0 ∷ take (2 * left) (drop (2 * (i + 1)) edges))
-edge-more left i edges h =
-    let k : 2 * suc left ≡ suc (suc (2 * left)) = omega arith in
-    let j : 2 * i + 1 + 1 ≡ 2 * (i + 1) = omega arith in
-    ap (λ (m : ℕ). take m (drop (2 * i) edges)) k
-    ∙ one-more (suc (2 * left)) edges (2 * i) (omega arith)
-    ∙ ap (λ (t : List ℕ). getD edges (2 * i) 0 ∷ t)
-    (one-more (2 * left) edges (2 * i + 1) (omega arith)
-    ∙ ap (λ (m : ℕ). getD edges (2 * i + 1) 0 ∷ take (2 * left) (drop m edges)) j)
-
-pub edges-held : (n left i : ℕ) (last : Edge) (edges : List ℕ) (r : List Edge) → edgesGiven n left i last edges ≡ good r
-    → EdgesHeld n left i last edges r
-unfolding edgesGiven All Next edgeNumbers
-edges-held n zero i last edges r e =
-    subst (EdgesHeld n 0 i last edges) (good-same [] r e)
-    (record { count = refl; vertices = tt; rise = tt; held = λ h. refl })
-edges-held n (suc left) i last edges r e =
-    let d : Edge = edgeIn edges i in
-    let a = refuse-good (edgeFault n last d) 0 _ r e in
-    let c = then-good (edgesGiven n left (i + 1) d edges) _ r (a .1) in
-    let k = edge-kept n last d (a .0) in
-    let t = edges-held n left (i + 1) d edges (c .0) (c .1) in
-    subst (EdgesHeld n (suc left) i last edges) (good-same (d ∷ c .0) r (c .2))
-    (record {
-      count = ap suc (t .count);
-      vertices = ((k .0, k .1), t .vertices);
-      rise = next-more EdgeBelow last d (c .0) (k .2) (t .rise);
-      held = λ h. edge-more left i edges h ∙ ap (λ (u : List ℕ). d .from ∷ (d .to ∷ u)) (t .held (omega arith));
-    })
-
--- ---- a path's vertices
-
--- what is known of a path's vertices that were taken, after the vertex `last`, or 0
-pub record VerticesHeld (n : ℕ) (es : List Edge) (left at last : ℕ) (paths : List ℕ) (r : List ℕ) : Type 0 where
-  pub count : length r ≡ left
-  pub vertices : All (Vertex n) r
-  pub rise : Next _<_ (last ∷ r)
-  pub steps : Next (λ u v. isStep es u v ≡ true) (last ∷ r)
-  pub held : at + left ≤ length paths → take left (drop at paths) ≡ r
-
-pub vertices-held : (n : ℕ) (es : List Edge) (left at last : ℕ) (paths : List ℕ) (r : List ℕ) → verticesGiven n es left at last paths ≡ good r
-    → VerticesHeld n es left at last paths r
-unfolding verticesGiven All Next
-vertices-held n es zero at last paths r e =
-    subst (VerticesHeld n es 0 at last paths) (good-same [] r e)
-    (record { count = refl; vertices = tt; rise = tt; steps = tt; held = λ h. refl })
-vertices-held n es (suc left) at last paths r e =
-    let v : ℕ = getD paths at 0 in
-    let a = refuse-good (vertexFault n es last v) 0 _ r e in
-    let c = then-good (verticesGiven n es left (at + 1) v paths) _ r (a .1) in
-    let k = vertex-kept n es last v (a .0) in
-    let t = vertices-held n es left (at + 1) v paths (c .0) (c .1) in
-    subst (VerticesHeld n es (suc left) at last paths) (good-same (v ∷ c .0) r (c .2))
-    (record {
-      count = ap suc (t .count);
-      vertices = (k .0, t .vertices);
-      rise = next-more _<_ last v (c .0) (k .1) (t .rise);
-      steps = next-more (λ u w. isStep es u w ≡ true) last v (c .0) (k .2) (t .steps);
-      held = λ h. one-more left paths at (omega arith) ∙ ap (λ (u : List ℕ). v ∷ u) (t .held (omega arith));
-    })
+pub edges-numbers-in : (left i : ℕ) (edges : List ℕ) → edgeNumbers (edgesIn left i edges) ≡ numbersIn (2 * left) (2 * i) edges
+unfolding edgeNumbers edgesIn numbersIn
+edges-numbers-in zero i edges = refl
+edges-numbers-in (suc left) i edges =
+    let d : 2 * suc left ≡ suc (suc (2 * left)) = omega arith in
+    let e : 2 * (i + 1) ≡ 2 * i + 1 + 1 = omega arith in
+    simp (d, edges-numbers-in left (i + 1) edges, e)
 
 -- ---- paths
 
--- what is known of paths that were taken, from path i on
-pub record PathsHeld (n : ℕ) (es : List Edge) (left i : ℕ) (b : Buffers) (r : List (List ℕ)) : Type 0 where
-  pub count : length r ≡ left
-  pub lengths : All (λ p. (1 ≤ length p) × (length p ≤ n)) r
-  pub vertices : All (λ p. All (Vertex n) p) r
-  pub rise : All (λ p. Next _<_ p) r
-  pub steps : All (λ p. Next (λ u v. List·Memᴰ (record { from = u; to = v }) es) p) r
-  pub counts : i + left ≤ length (b .counts) → take left (drop i (b .counts)) ≡ map length r
-  pub held : n ≤ pathRoom → pathRoom * (i + left) ≤ length (b .paths) → (j : ℕ) → j < left
-      → take (length (getD r j [])) (drop (pathRoom * (i + j)) (b .paths)) ≡ getD r j []
+pub length-paths : (left i : ℕ) (paths counts : List ℕ) → length (pathsIn left i paths counts) ≡ left
+unfolding pathsIn
+length-paths zero i paths counts = refl
+length-paths (suc left) i paths counts = ap suc (length-paths left (i + 1) paths counts)
 
-paths-held-more : (n : ℕ) (es : List Edge) (left i count : ℕ) (b : Buffers) (p : List ℕ) (r : List (List ℕ))
-    → count ≡ getD (b .counts) i 0
-    → pathLengthFault n count ≡ 0
-    → VerticesHeld n es count (pathRoom * i) 0 (b .paths) p
-    → PathsHeld n es left (i + 1) b r
-    → PathsHeld n es (suc left) i b (p ∷ r)
-unfolding All
-paths-held-more n es left i count b p r e z t h =
-    let k = range-kept 1 n count z in
-    let m : length p ≡ count = t .count in
-    record {
-      count = ap suc (h .count);
-      lengths = ((omega arith, omega arith), h .lengths);
-      vertices = (t .vertices, h .vertices);
-      rise = (next-tail _<_ 0 p (t .rise), h .rise);
-      steps = (steps-edges n es p (t .vertices) (next-tail (λ u v. isStep es u v ≡ true) 0 p (t .steps)), h .steps);
-      counts = λ f.
-          one-more left (b .counts) i (omega arith)
-          ∙ ap₂ (λ (x : ℕ) (xs : List ℕ). x ∷ xs) (sym (m ∙ e)) (h .counts (omega arith));
-      held = λ f g j. elim j [
-        | zero ↦ λ o.
-            let q : pathRoom * (i + 0) ≡ pathRoom * i = omega arith in
-            ap₂ (λ (x y : ℕ). take x (drop y (b .paths))) m q ∙ t .held (omega arith)
-        | suc l ↦ λ o.
-            let q : pathRoom * (i + suc l) ≡ pathRoom * (i + 1 + l) = omega arith in
-            ap (λ (y : ℕ). take (length (getD r l [])) (drop y (b .paths))) q ∙ h .held f (omega arith) l (omega arith)
-      ];
-    }
+pub paths-counts : (left i : ℕ) (paths counts : List ℕ) → map length (pathsIn left i paths counts) ≡ numbersIn left i counts
+unfolding pathsIn numbersIn
+paths-counts zero i paths counts = refl
+paths-counts (suc left) i paths counts =
+    ap₂ (λ (x : ℕ) (xs : List ℕ). x ∷ xs) (length-numbers (getD counts i 0) (pathRoom * i) paths) (paths-counts left (i + 1) paths counts)
 
-pub paths-held : (n : ℕ) (es : List Edge) (left i : ℕ) (b : Buffers) (r : List (List ℕ)) → pathsGiven n es left i b ≡ good r
-    → PathsHeld n es left i b r
-unfolding pathsGiven All
-paths-held n es zero i b r e =
-    subst (PathsHeld n es 0 i b) (good-same [] r e)
-    (record {
-      count = refl;
-      lengths = tt;
-      vertices = tt;
-      rise = tt;
-      steps = tt;
-      counts = λ h. refl;
-      held = λ f g j o. absurd (omega arith);
-    })
-paths-held n es (suc left) i b r e =
-    let count : ℕ = getD (b .counts) i 0 in
-    let a = refuse-good (pathLengthFault n count) 0 _ r e in
-    let c = then-good (verticesGiven n es count (pathRoom * i) 0 (b .paths)) _ r (a .1) in
-    let d = then-good (pathsGiven n es left (i + 1) b) _ r (c .2) in
-    subst (PathsHeld n es (suc left) i b) (good-same (c .0 ∷ d .0) r (d .2))
-    (paths-held-more n es left i count b (c .0) (d .0) refl (a .0)
-    (vertices-held n es count (pathRoom * i) 0 (b .paths) (c .0) (c .1))
-    (paths-held n es left (i + 1) b (d .0) (d .1)))
+pub paths-each : (left i : ℕ) (paths counts : List ℕ) (j : ℕ) → j < left
+    → getD (pathsIn left i paths counts) j [] ≡ numbersIn (getD counts (i + j) 0) (pathRoom * (i + j)) paths
+unfolding pathsIn
+paths-each zero i paths counts j h = absurd (omega arith)
+paths-each (suc left) i paths counts zero h =
+    ap (λ (k : ℕ). numbersIn (getD counts k 0) (pathRoom * k) paths) (sym (add-zero i))
+paths-each (suc left) i paths counts (suc j) h =
+    let e : i + 1 + j ≡ i + suc j = omega arith in
+    paths-each left (i + 1) paths counts j (omega arith) ∙ ap (λ (k : ℕ). numbersIn (getD counts k 0) (pathRoom * k) paths) e
+
+-- ---- buffers that hold content: what is taken from them is that content
+
+cons-same : {A : Type 0} (x y : A) (xs ys : List A) → x ∷ xs ≡ y ∷ ys → (x ≡ y) × (xs ≡ ys)
+cons-same x y xs ys e = (cc, cc)
+
+-- two lists of two parts
+parts-same : (a b c d : List ℕ) → length a ≡ length c → a ++ b ≡ c ++ d → (a ≡ c) × (b ≡ d)
+parts-same a b c d n e = (
+  sym (take-at a b (length c) n) ∙ ap (take (length c)) e ∙ take-at c d (length c) refl,
+  sym (drop-at a b (length c) n) ∙ ap (drop (length c)) e ∙ drop-at c d (length c) refl,
+)
+
+labels-taken : (ls : List (List ℕ)) (i sum : ℕ) (letters lengths : List ℕ) → numbersIn (length ls) i lengths ≡ map length ls
+    → numbersIn (length (flatten ls)) sum letters ≡ flatten ls → labelsIn (length ls) i sum letters lengths ≡ ls
+unfolding labelsIn numbersIn flatten
+labels-taken [] i sum letters lengths e f = refl
+labels-taken (l ∷ ls) i sum letters lengths e f =
+    let t = cons-same (getD lengths i 0) (length l) _ (map length ls) e in
+    let n : length (l ++ flatten ls) ≡ length l + length (flatten ls) = length-append l (flatten ls) in
+    let u = parts-same (numbersIn (length l) sum letters) _ l (flatten ls) (length-numbers (length l) sum letters)
+    (sym (numbers-add (length l) (length (flatten ls)) sum letters) ∙ ap (λ (k : ℕ). numbersIn k sum letters) (sym n) ∙ f) in
+    let w = labels-taken ls (i + 1) (sum + length l) letters lengths (t .1) (u .1) in
+    rw (t .0) (ap₂ (λ (x : List ℕ) (xs : List (List ℕ)). x ∷ xs) (u .0) w)
+
+pub labels-held : (ls : List (List ℕ)) (letters lengths : List ℕ) → length ls ≤ length lengths → length (flatten ls) ≤ length letters
+    → take (length ls) lengths ≡ map length ls → take (length (flatten ls)) letters ≡ flatten ls → labelsIn (length ls) 0 0 letters lengths ≡ ls
+labels-held ls letters lengths h k e f =
+    labels-taken ls 0 0 letters lengths
+    (sym (numbers-part (length ls) 0 lengths (omega arith)) ∙ e)
+    (sym (numbers-part (length (flatten ls)) 0 letters (omega arith)) ∙ f)
+
+numbers-edges : (es fs : List Edge) → edgeNumbers es ≡ edgeNumbers fs → es ≡ fs
+unfolding edgeNumbers
+numbers-edges [] [] e = refl
+numbers-edges [] (d ∷ fs) e = let z : _≡_ {A = ℕ} 0 1 = cc in absurd (omega arith)
+numbers-edges (d ∷ es) [] e = let z : _≡_ {A = ℕ} 0 1 = cc in absurd (omega arith)
+numbers-edges (d ∷ es) (c ∷ fs) e =
+    let t = cons-same (d .from) (c .from) _ _ e in
+    let u = cons-same (d .to) (c .to) _ _ (t .1) in
+    ap₂ (λ (x y : ℕ). record { from = x; to = y } ∷ es) (t .0) (u .0) ∙ ap (λ (xs : List Edge). c ∷ xs) (numbers-edges es fs (u .1))
+
+pub edges-held : (es : List Edge) (edges : List ℕ) → 2 * length es ≤ length edges → take (2 * length es) edges ≡ edgeNumbers es
+    → edgesIn (length es) 0 edges ≡ es
+edges-held es edges h e =
+    numbers-edges _ es (edges-numbers-in (length es) 0 edges ∙ sym (numbers-part (2 * length es) 0 edges (omega arith)) ∙ e)
+
+pub paths-held : (ps : List (List ℕ)) (paths counts : List ℕ) → length ps ≤ length counts → take (length ps) counts ≡ map length ps
+    → ((j : ℕ) → j < length ps → pathRoom * j + length (getD ps j []) ≤ length paths)
+    → ((j : ℕ) → j < length ps → take (length (getD ps j [])) (drop (pathRoom * j) paths) ≡ getD ps j [])
+    → pathsIn (length ps) 0 paths counts ≡ ps
+paths-held ps paths counts h e k f =
+    ext-getD [] _ ps (length-paths (length ps) 0 paths counts) (λ j o.
+    let n : j < length ps = subst (λ (m : ℕ). j < m) (length-paths (length ps) 0 paths counts) o in
+    let z : 0 + j ≡ j = omega arith in
+    let c : getD counts j 0 ≡ length (getD ps j []) =
+    sym (getD-take (length ps) counts j 0 n) ∙ ap (λ (xs : List ℕ). getD xs j 0) e ∙ List·getD-map length ps j [] in
+    paths-each (length ps) 0 paths counts j n
+    ∙ ap (λ (i : ℕ). numbersIn (getD counts i 0) (pathRoom * i) paths) z
+    ∙ ap (λ (i : ℕ). numbersIn i (pathRoom * j) paths) c
+    ∙ sym (numbers-part (length (getD ps j [])) (pathRoom * j) paths (k j n))
+    ∙ f j n)

@@ -1,6 +1,6 @@
 -- The rules: which give no refusal number, in terms of numbers and of membership. A rule that gives 0 is kept, and one that is kept gives 0.
 -- Assumes nothing.
-use Prim.Native.Nat.{ℕ, zero, suc, _+_, _≤_, _<_}
+use Prim.Native.Nat.{ℕ, zero, suc, _+_, _^_, _≤_, _<_}
 use mathlib.Core.Path.{_≡_, refl, sym, ap, _∙_, subst}
 use mathlib.Core.Logic.{_⊎_, inl, inr}
 use mathlib.Core.List.{List, [], _∷_, List·Memᴰ, List·Memᴰ·head, List·Memᴰ·tail, List·Memᴰ·cases-cons, List·Memᴰ·not-nil}
@@ -12,7 +12,7 @@ use borrow.Author.Tests.{ltb-true, leb-true, eqb-true, lt-ltb, le-leb, eq-eqb}
 use Rattle.wire.specs.Cases.{pick}
 use Rattle.wire.specs.Letters.{isLetter}
 use Rattle.wire.specs.Sizes.{mostLetters}
-use Rattle.wire.specs.Refusals.{outOfRange, notLetter, noVertex, notRising, notEdge, onNoPath, leftOver}
+use Rattle.wire.specs.Refusals.{outOfRange, notLetter, noVertex, notRising, notEdge, onNoPath}
 use Rattle.graph.specs.Content.{Edge}
 use Rattle.graph.specs.Good.{Vertex, EdgeBelow}
 use Rattle.graph.specs.Rules.{rangeFault, lengthFault, letterFault, isVertex, edgeBelow, edgeFault, isEdge, isStep, vertexFault, isOn, isOnAny, allOn, coverFault}
@@ -227,20 +227,19 @@ cover-free n ps h =
 
 -- ---- the number of a rule that is not kept
 
--- a refusal number of a file's own rules
+-- a refusal number: not 0, and a number of 32 bits
 abbrev pub Known : ℕ → Type 0
-Known k = (1 ≤ k) × (k ≤ leftOver)
+Known k = (1 ≤ k) × (k < 2 ^ 32)
 
--- it is at most that of "bytes left over"
-few : (b : Bool) (x y : ℕ) → x ≤ leftOver → y ≤ leftOver → pick b x y ≤ leftOver
+few : (b : Bool) (x y : ℕ) → x < 2 ^ 32 → y < 2 ^ 32 → pick b x y < 2 ^ 32
 few true x y h k = h
 few false x y h k = k
 
-known : (k : ℕ) → k ≤ leftOver → (k ≡ 0 → ⊥) → Known k
+known : (k : ℕ) → k < 2 ^ 32 → (k ≡ 0 → ⊥) → Known k
 known k h n = (omega arith, h)
 
 -- each rule gives 0 or a known number
-pub test-known : (b : Bool) (k : ℕ) → k ≤ leftOver → (pick b 0 k ≡ 0 → ⊥) → Known (pick b 0 k)
+pub test-known : (b : Bool) (k : ℕ) → k < 2 ^ 32 → (pick b 0 k ≡ 0 → ⊥) → Known (pick b 0 k)
 test-known b k h n = known (pick b 0 k) (few b 0 k (omega arith) h) n
 
 pub edge-known : (n : ℕ) (last e : Edge) → (edgeFault n last e ≡ 0 → ⊥) → Known (edgeFault n last e)

@@ -9,8 +9,8 @@ pub mod Whole
 pub mod Faulty
 pub mod Rereading
 pub mod RereadWhole
+pub mod ContentReading
 pub mod Exactly
 pub mod Givens
-pub mod Regiven
 pub mod RoundTrips
 pub mod Prefixes

@@ -8,23 +8,22 @@ use lib.ListN.{length}
 use lib.Dec.{leb, eqb}
 use borrow.Author.Tests.{leb-true, eqb-true}
 use Rattle.wire.specs.Cases.{pick}
-use Rattle.wire.specs.Found.{good, Part}
+use Rattle.wire.specs.Found.{Found, good, Part, andThen}
 use Rattle.wire.specs.Numbers.{numberAt}
 use Rattle.wire.specs.Refusals.{outOfRange, wrongKind, leftOver}
 use Rattle.wire.specs.Sizes.{graphKind, mostFileBytes, mostVertices, mostEdges, mostPaths}
 use Rattle.wire.specs.declared.numbers.Cursor.{Cursor}
 use Rattle.wire.specs.declared.numbers.Number.the-variants.{Value}
-use Rattle.wire.proofs.Finding.{then-good, good-same, on-then, on-number, on-refuse}
+use Rattle.wire.proofs.Finding.{then-good, refuse-good, good-same, on-then, on-number, on-refuse}
 use Rattle.wire.proofs.NumberLaws.{number-within}
 use Rattle.graph.specs.Content.{Edge, vertexCount, pathCount}
 use Rattle.graph.specs.Rules.{vertexCountFault, edgeCountFault, pathCountFault, coverFault, noEdge}
-use Rattle.graph.specs.Reading.{Front, Parsed, labelsFrom, edgesFrom, pathsFrom, frontOf, restOf, graphOf}
+use Rattle.graph.specs.Reading.{Front, Parsed, labelsFrom, edgesFrom, pathsFrom, frontIn, frontOf, restOf, wholeOf, graphOf}
 use Rattle.graph.proofs.Kept.{passed, range-kept}
 use Rattle.graph.proofs.Accepting.{LabelsRead, labels-read, EdgesRead, edges-read, PathsRead, paths-read}
 
 -- a file up to its edges; `countAt` is the place of n, and `labelsEnd` that of m
 pub record FrontParts (wanted : ℕ) (s : List ℕ) (f : Front) : Type 0 where
-  pub short : length s ≤ mostFileBytes
   pub countAt : ℕ
   pub kindIs : numberAt s 0 ≡ Value wanted (record { at = countAt })
   pub countIs : numberAt s countAt ≡ Value (length (f .labels)) (record { at = f .labelsAt })
@@ -40,7 +39,6 @@ pub record FrontParts (wanted : ℕ) (s : List ℕ) (f : Front) : Type 0 where
   pub edgesHold : EdgesRead (length (f .labels)) (length (f .edges)) noEdge s (f .edgesAt) (record { content = f .edges; next = f .next })
 
 front-made : (wanted : ℕ) (s : List ℕ) (n m : ℕ) (a c d : Cursor) (l : Part (List (List ℕ))) (r : Part (List Edge))
-    → length s ≤ mostFileBytes
     → numberAt s 0 ≡ Value wanted a
     → numberAt s (a .at) ≡ Value n c
     → vertexCountFault n ≡ 0
@@ -49,13 +47,12 @@ front-made : (wanted : ℕ) (s : List ℕ) (n m : ℕ) (a c d : Cursor) (l : Par
     → edgeCountFault m ≡ 0
     → edgesFrom n m noEdge s (d .at) ≡ good r
     → FrontParts wanted s (record { labels = l .content; edges = r .content; labelsAt = c .at; edgesAt = d .at; next = r .next })
-front-made wanted s n m a c d l r short kindIs countIs range labelsIs edgeCountIs few edgesIs =
+front-made wanted s n m a c d l r kindIs countIs range labelsIs edgeCountIs few edgesIs =
     let lr = labels-read n 0 s (c .at) l (number-within s (a .at) n c countIs .1) labelsIs in
     let er = edges-read n m noEdge s (d .at) r (number-within s (l .next) m d edgeCountIs .1) edgesIs in
     let lc : length (l .content) ≡ n = lr .count in
     let ec : length (r .content) ≡ m = er .count in
     record {
-      short = short;
       countAt = a .at;
       kindIs = kindIs;
       countIs = rw lc countIs;
@@ -71,11 +68,10 @@ front-made wanted s n m a c d l r short kindIs countIs range labelsIs edgeCountI
     }
 
 -- from what was found of the front, every section of it
-pub front-parts : (wanted : ℕ) (s : List ℕ) (f : Front) → frontOf wanted s ≡ good f → FrontParts wanted s f
-unfolding frontOf
-front-parts wanted s f e =
-    on-refuse (pick (leb (length s) mostFileBytes) 0 outOfRange) mostFileBytes _ f e (λ short e1.
-    on-number s 0 _ f e1 (λ kind a kindIs e2.
+front-read : (wanted : ℕ) (s : List ℕ) (f : Front) → frontIn wanted s ≡ good f → FrontParts wanted s f
+unfolding frontIn
+front-read wanted s f e =
+    on-number s 0 _ f e (λ kind a kindIs e2.
     on-refuse (pick (eqb kind wanted) 0 wrongKind) 0 _ f e2 (λ same e3.
     on-number s (a .at) _ f e3 (λ n c countIs e4.
     on-refuse (vertexCountFault n) (a .at) _ f e4 (λ range e5.
@@ -85,9 +81,18 @@ front-parts wanted s f e =
     on-then (edgesFrom n m noEdge s (d .at)) _ f e8 (λ r edgesIs e9.
     subst (FrontParts wanted s) (good-same _ f e9)
     (front-made wanted s n m a c d l r
-    (leb-true (length s) mostFileBytes (passed _ outOfRange (omega arith) short))
     (kindIs ∙ ap (λ (x : ℕ). Value x a) (eqb-true kind wanted (passed _ wrongKind (omega arith) same)))
-    countIs range labelsIs edgeCountIs few edgesIs))))))))))
+    countIs range labelsIs edgeCountIs few edgesIs)))))))))
+
+-- a file that is not too long
+short-front : (wanted : ℕ) (s : List ℕ) (f : Front) → frontOf wanted s ≡ good f → (length s ≤ mostFileBytes) × (frontIn wanted s ≡ good f)
+unfolding frontOf
+short-front wanted s f e =
+    let t = refuse-good (pick (leb (length s) mostFileBytes) 0 outOfRange) mostFileBytes (frontIn wanted s) f e in
+    (leb-true (length s) mostFileBytes (passed _ outOfRange (omega arith) (t .0)), t .1)
+
+pub front-parts : (wanted : ℕ) (s : List ℕ) (f : Front) → frontOf wanted s ≡ good f → FrontParts wanted s f
+front-parts wanted s f e = front-read wanted s f (short-front wanted s f e .1)
 
 -- an accepted file; `labelsEnd` is the place of m, and `edgesEnd` that of K
 pub record Parts (s : List ℕ) (p : Parsed) : Type 0 where
@@ -143,9 +148,20 @@ rest-parts s f p x e =
     subst (Parts s) (good-same _ p e5)
     (rest-made s f k a r x countIs range pathsIs cover (eqb-true (r .next) (length s) (passed _ leftOver (omega arith) end))))))))
 
--- from what was found of a whole file, every section of it
-pub parts : (s : List ℕ) (p : Parsed) → graphOf s ≡ good p → Parts s p
-unfolding graphOf
-parts s p e =
+-- from what was found of all the bytes, every section of them
+pub whole-parts : (s : List ℕ) (p : Parsed) → wholeOf s ≡ good p → Parts s p
+unfolding wholeOf
+whole-parts s p e =
+    let a = then-good (frontIn graphKind s) (restOf s) p e in
+    rest-parts s (a .0) p (front-read graphKind s (a .0) (a .1)) (a .2)
+
+-- an accepted file is not too long, and its bytes are read so however many they are
+pub short-whole : (s : List ℕ) (p : Parsed) → graphOf s ≡ good p → (length s ≤ mostFileBytes) × (wholeOf s ≡ good p)
+unfolding graphOf wholeOf
+short-whole s p e =
     let a = then-good (frontOf graphKind s) (restOf s) p e in
-    rest-parts s (a .0) p (front-parts graphKind s (a .0) (a .1)) (a .2)
+    let t = short-front graphKind s (a .0) (a .1) in
+    (t .0, ap (λ (x : Found Front). andThen x (restOf s)) (t .1) ∙ a .2)
+
+pub parts : (s : List ℕ) (p : Parsed) → graphOf s ≡ good p → Parts s p
+parts s p e = whole-parts s p (short-whole s p e .1)

@@ -18,10 +18,10 @@ use Rattle.wire.proofs.Cutting.{CutTo, cut-good, cut-end, cut-then, cut-number,
 use Rattle.wire.proofs.Encoding.{split}
 use Rattle.graph.specs.Content.{Edge, vertexCount, pathCount}
 use Rattle.graph.specs.Rules.{letterFault, lengthFault, edgeFault, vertexFault, pathLengthFault, vertexCountFault, edgeCountFault, pathCountFault, noEdge}
-use Rattle.graph.specs.Reading.{Front, Parsed, lettersFrom, labelsFrom, edgesFrom, verticesFrom, pathsFrom, frontOf, restOf, graphOf}
+use Rattle.graph.specs.Reading.{Front, Parsed, lettersFrom, labelsFrom, edgesFrom, verticesFrom, pathsFrom, frontIn, frontOf, restOf, graphOf}
 use Rattle.graph.proofs.Kept.{range-free}
 use Rattle.graph.proofs.Steps.{letters-step, labels-step, edges-step, vertices-step, paths-step, letters-none, labels-none, edges-none, vertices-none, paths-none}
-use Rattle.graph.proofs.Parted.{FrontParts, Parts, parts}
+use Rattle.graph.proofs.Parted.{FrontParts, Parts, short-whole, parts}
 
 module _ (s : List ℕ) (j : ℕ) (fits : j ≤ length s) where
   pub cut-length : length (take j s) ≡ j
@@ -121,13 +121,13 @@ module _ (s : List ℕ) (j : ℕ) (fits : j ≤ length s) where
       cut-good _ m)))))
 
   -- up to the edges
-  front-cut : (wanted : ℕ) (f : Front) → FrontParts wanted s f → CutTo j (f .next ≤ j) f (frontOf wanted (take j s))
-  unfolding frontOf
-  front-cut wanted f t =
+  front-cut : (wanted : ℕ) (f : Front) → length s ≤ mostFileBytes → FrontParts wanted s f → CutTo j (f .next ≤ j) f (frontOf wanted (take j s))
+  unfolding frontOf frontIn
+  front-cut wanted f few t =
       let n : ℕ = length (f .labels) in
       let m : ℕ = length (f .edges) in
       cut-refuse (pick (leb (length (take j s)) mostFileBytes) 0 outOfRange) mostFileBytes _
-      (rw (cut-length, le-leb j mostFileBytes (omega (arith, t .short))))
+      (rw (cut-length, le-leb j mostFileBytes (omega arith)))
       (cut-number s 0 j wanted _ _ fits (t .kindIs) (λ h.
       cut-refuse (pick (eqb wanted wanted) 0 wrongKind) 0 _ (rw (eq-eqb wanted wanted refl))
       (cut-number s (t .countAt) j n _ _ fits (t .countIs) (λ i.
@@ -161,7 +161,7 @@ unfolding graphOf
 prefix-refused s p j e h =
     let t = parts s p e in
     let c : CutTo j (length s ≤ j) p (graphOf (take j s)) =
-    cut-then (frontOf graphKind (take j s)) _ (restOf (take j s)) (front-cut s j (omega arith) graphKind _ (t .front))
+    cut-then (frontOf graphKind (take j s)) _ (restOf (take j s)) (front-cut s j (omega arith) graphKind _ (short-whole s p e .0) (t .front))
     (λ i. rest-cut s j (omega arith) p t h) in
     elim (c .either) [
       | inl k ↦ absurd (omega (arith, k .0))

@@ -18,13 +18,12 @@ use Rattle.graph.specs.Content.{Edge, Graph, vertexCount, edgeCount, pat
 use Rattle.graph.specs.Good.{All, Next, Vertex, EdgeBelow, GoodGraph}
 use Rattle.graph.specs.Rules.{vertexCountFault, edgeCountFault, pathCountFault, coverFault, noEdge}
 use Rattle.graph.specs.Encode.{encodeGraph, encodeLabels, encodeEdges, encodePaths}
-use Rattle.graph.specs.Reading.{Front, labelsFrom, edgesFrom, pathsFrom, frontOf, restOf, graphOf}
+use Rattle.graph.specs.Reading.{Front, labelsFrom, edgesFrom, pathsFrom, frontIn, frontOf, restOf, wholeOf, graphOf}
 use Rattle.graph.specs.Placed.{labelsStart, edgesStart, pathsStart, parsedOf}
 use Rattle.graph.proofs.Kept.{range-free, cover-free}
 use Rattle.graph.proofs.Rereading.{Again, labels-again, edges-again, paths-again}
 
 front-found : (wanted : ℕ) (s : List ℕ) (a n b : ℕ) (l : Part (List (List ℕ))) (m c : ℕ) (r : Part (List Edge))
-    → length s ≤ mostFileBytes
     → numberAt s 0 ≡ Value wanted (record { at = a })
     → numberAt s a ≡ Value n (record { at = b })
     → vertexCountFault n ≡ 0
@@ -32,10 +31,10 @@ front-found : (wanted : ℕ) (s : List ℕ) (a n b : ℕ) (l : Part (List (List 
     → numberAt s (l .next) ≡ Value m (record { at = c })
     → edgeCountFault m ≡ 0
     → edgesFrom n m noEdge s c ≡ good r
-    → frontOf wanted s ≡ good (record { labels = l .content; edges = r .content; labelsAt = b; edgesAt = c; next = r .next })
-unfolding frontOf
-front-found wanted s a n b l m c r short e1 e2 k2 e3 e4 k4 e5 =
-    simp (le-leb (length s) mostFileBytes short, e1, eq-eqb wanted wanted refl, e2, k2, e3, e4, k4, e5)
+    → frontIn wanted s ≡ good (record { labels = l .content; edges = r .content; labelsAt = b; edgesAt = c; next = r .next })
+unfolding frontIn
+front-found wanted s a n b l m c r e1 e2 k2 e3 e4 k4 e5 =
+    simp (e1, eq-eqb wanted wanted refl, e2, k2, e3, e4, k4, e5)
 
 rest-found : (s : List ℕ) (f : Front) (k d : ℕ) (r : Part (List (List ℕ)))
     → numberAt s (f .next) ≡ Value k (record { at = d })
@@ -105,19 +104,27 @@ module _ (g : Graph) (h : GoodGraph g) (s : List ℕ) (e : s ≡ encodeGraph g) 
   unfolding encodeGraph labelsStart edgesStart pathsStart
   paths-end = let l = simp length-append at (ap length e) in omega arith
 
-  read-again : length s ≤ mostFileBytes → graphOf s ≡ good (parsedOf g)
-  unfolding graphOf
-  read-again short =
+  read-again : wholeOf s ≡ good (parsedOf g)
+  unfolding wholeOf
+  read-again =
       ap (λ (x : Found Front). andThen x (restOf s))
-      (front-found graphKind s (length (encode graphKind)) (vertexCount g) (labelsStart g) _ (edgeCount g) (edgesStart g) _ short
+      (front-found graphKind s (length (encode graphKind)) (vertexCount g) (labelsStart g) _ (edgeCount g) (edgesStart g) _
       (kind-again .0) (count-again .0) (range-free 1 mostVertices (vertexCount g) (h .someVertex) (h .fewVertices)) (labels-found .found)
       (edge-count-again .0) (range-free 0 mostEdges (edgeCount g) (omega arith) (h .fewEdges)) (edges-found .found))
       ∙ rest-found s _ (pathCount g) (pathsStart g) _ (path-count-again .0) (range-free 1 mostPaths (pathCount g) (h .somePath) (h .fewPaths))
       (paths-found .found) (cover-free (vertexCount g) (g .paths) (h .covered)) paths-end
 
--- what a good graph's encoding is read as
+-- what a good graph's encoding is read as, however long it is
+pub whole-again : (g : Graph) → GoodGraph g → wholeOf (encodeGraph g) ≡ good (parsedOf g)
+whole-again g h = read-again g h (encodeGraph g) refl
+
+-- bytes that are not too long are read as a file
+whole-short : (s : List ℕ) → length s ≤ mostFileBytes → graphOf s ≡ wholeOf s
+unfolding graphOf wholeOf frontOf
+whole-short s short = simp (le-leb (length s) mostFileBytes short)
+
 pub graph-again : (g : Graph) → GoodGraph g → length (encodeGraph g) ≤ mostFileBytes → graphOf (encodeGraph g) ≡ good (parsedOf g)
-graph-again g h short = read-again g h (encodeGraph g) refl short
+graph-again g h short = whole-short (encodeGraph g) short ∙ whole-again g h
 
 -- ---- an encoding is that of one graph, however long it is
 

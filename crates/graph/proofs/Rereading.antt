@@ -30,7 +30,7 @@ pub record Again {A : Type 0} (x : Found (Part A)) (content : A) (s : List ℕ) 
 -- ---- letters
 
 -- what stands at a place
-here : (s : List ℕ) (at b : ℕ) (rest : List ℕ) → drop at s ≡ b ∷ rest → (at < length s) × (getD s at 0 ≡ b) × (drop (at + 1) s ≡ rest)
+pub here : (s : List ℕ) (at b : ℕ) (rest : List ℕ) → drop at s ≡ b ∷ rest → (at < length s) × (getD s at 0 ≡ b) × (drop (at + 1) s ≡ rest)
 here s at b rest e =
     let l = length-drop at s in
     let k = ap length e in

@@ -1,36 +1,36 @@
 -- The reader and the writer undo one another: on file bytes, and on the used places of lent buffers.
 -- Assumes nothing.
 use Prim.Native.Nat.{ℕ, zero, suc, _+_, _*_, _≤_, _<_}
-use mathlib.Core.Path.{_≡_, refl, sym, ap, _∙_, subst}
+use mathlib.Core.Path.{_≡_, refl, sym, ap, ap₂, _∙_, subst}
+use mathlib.Core.Logic.{inl, inr, _↔_}
 use mathlib.Core.List.{List, [], _∷_, _++_, flatten, append-assoc}
-use mathlib.Core.Bool.{Bool, true, false}
+use mathlib.Core.Bool.{true}
 use native.Mathlib.Omega.{arith}
 use lib.ListN.{length, getD, take, drop, length-append, length-map}
 use lib.Seq.{take-at, drop-at, drop-drop}
 use lib.Dec.{leb}
-use borrow.Author.Tests.{leb-true, le-leb}
-use Rattle.wire.specs.Cases.{pick}
-use Rattle.wire.specs.Found.{Found, good, fault, Reply, accepted, refused, inFile, onAccepted}
+use borrow.Author.Tests.{leb-true, leb-false, le-leb, lt-leb}
+use Rattle.wire.specs.Found.{Found, good, fault, Reply, accepted, refused, inFile, asContent, refusalNumber}
 use Rattle.wire.specs.Lent.{padded, laid, front}
 use Rattle.wire.specs.Refusals.{outOfRange, smallBuffer, shortOutput, graphFile}
-use Rattle.wire.specs.Sizes.{mostFileBytes, mostVertices, mostEdges, mostPaths, mostLetters, fullLetters, fullLengths, fullEdges, fullPaths, fullCounts, pathRoom}
-use Rattle.wire.proofs.Finding.{good-same, on-then, on-refuse}
+use Rattle.wire.specs.Sizes.{mostFileBytes, fullLetters, fullLengths, fullEdges, fullPaths, fullCounts, pathRoom}
+use Rattle.wire.proofs.Finding.{good-same}
+use Rattle.wire.proofs.Replying.{on-accepted, on-refused, file-accepted, file-refused, test-accepted, test-refused}
 use Rattle.wire.proofs.Laying.{length-padded, length-laid}
 use Rattle.wire.proofs.NumberLaws.{Bytes}
 use Rattle.graph.specs.Content.{Edge, Graph, vertexCount, edgeCount, pathCount, lettersOf, lengthsOf, edgeNumbers, pathNumbers, countsOf}
-use Rattle.graph.specs.Good.{All, EdgeBelow, GoodGraph}
-use Rattle.graph.specs.Rules.{vertexCountFault, edgeCountFault, pathCountFault, coverFault, noEdge}
+use Rattle.graph.specs.Good.{All, GoodGraph}
 use Rattle.graph.specs.Encode.{encodeGraph}
-use Rattle.graph.specs.Reading.{Parsed, graphOf}
+use Rattle.graph.specs.Reading.{Parsed, wholeOf, graphOf}
 use Rattle.graph.specs.Placed.{parsedOf}
-use Rattle.graph.specs.Entries.{Buffers, roomy, readReply, filled, readAfter, Given, labelsGiven, edgesGiven, pathsGiven, graphGiven, sizeReply, writeReply, writeAfter}
+use Rattle.graph.specs.Entries.{Buffers, roomy, readReply, filled, readAfter, Given, numbersIn, edgesIn, pathsIn, graphIn, graphGiven, sizeReply, writeReply, writeAfter}
 use Rattle.graph.specs.Used.{Holds, givenOf}
-use Rattle.graph.proofs.Kept.{both, range-kept, range-free, cover-kept, cover-free}
-use Rattle.graph.proofs.Accepting.{next-tail}
-use Rattle.graph.proofs.Whole.{taken}
-use Rattle.graph.proofs.RereadWhole.{graph-again, none-below}
-use Rattle.graph.proofs.Givens.{labels-held, edges-held, paths-held}
-use Rattle.graph.proofs.Regiven.{labels-given, edges-given, paths-given}
+use Rattle.graph.proofs.Kept.{both}
+use Rattle.graph.proofs.Parted.{whole-parts}
+use Rattle.graph.proofs.Whole.{parts-good, taken}
+use Rattle.graph.proofs.RereadWhole.{whole-again, graph-again}
+use Rattle.graph.proofs.ContentReading.{given-good}
+use Rattle.graph.proofs.Givens.{length-numbers, numbers-part, length-labels, labels-lengths, labels-letters, length-edges, edges-numbers-in, length-paths, paths-counts, paths-each, labels-held, edges-held, paths-held}
 
 -- ---- full size
 
@@ -71,6 +71,13 @@ room-roomy b r =
 
 -- ---- content that is given
 
+-- what holds of each element, at a place
+pub all-at : {A : Type 0} (P : A → Type 0) (xs : List A) (i : ℕ) (d : A) → All P xs → i < length xs → P (getD xs i d)
+unfolding All
+all-at P [] i d h k = absurd (omega arith)
+all-at P (x ∷ xs) zero d h k = h .0
+all-at P (x ∷ xs) (suc i) d h k = all-at P xs i d (h .1) (omega arith)
+
 -- the writer takes exactly the content that the used places hold, where it keeps the rules
 pub record Takes (c : Given) (g : Graph) : Type 0 where
   pub n : c .n ≡ vertexCount g
@@ -79,102 +86,74 @@ pub record Takes (c : Given) (g : Graph) : Type 0 where
   pub holds : Holds (c .buffers) g
   pub rules : GoodGraph g
 
-takes-made : (c : Given) (labels : List (List ℕ)) (edges : List Edge) (paths : List (List ℕ)) → Room (c .buffers)
-    → vertexCountFault (c .n) ≡ 0
-    → labelsGiven (c .n) 0 0 (c .buffers) ≡ good labels
-    → edgeCountFault (c .m) ≡ 0
-    → edgesGiven (c .n) (c .m) 0 noEdge (c .buffers .edges) ≡ good edges
-    → pathCountFault (c .k) ≡ 0
-    → pathsGiven (c .n) edges (c .k) 0 (c .buffers) ≡ good paths
-    → coverFault (c .n) paths ≡ 0
-    → Takes c (record { labels = labels; edges = edges; paths = paths })
-takes-made c labels edges paths room kn le km ee kk pe cover =
-    let l = labels-held (c .n) 0 0 (c .buffers) labels le in
-    let e = edges-held (c .n) (c .m) 0 noEdge (c .buffers .edges) edges ee in
-    let p = paths-held (c .n) edges (c .k) 0 (c .buffers) paths pe in
-    let rn = range-kept 1 mostVertices (c .n) kn in
-    let rm = range-kept 0 mostEdges (c .m) km in
-    let rk = range-kept 1 mostPaths (c .k) kk in
-    let n : length labels ≡ c .n = l .count in
-    let m : length edges ≡ c .m = e .count in
-    let k : length paths ≡ c .k = p .count in
-    let few : 0 + length (flatten labels) ≤ mostLetters = l .few (omega arith) in
+-- the used places hold the graph that is taken from them, where it keeps the rules
+in-holds : (c : Given) → Room (c .buffers) → GoodGraph (graphIn c) → Takes c (graphIn c)
+in-holds c room h =
+    let b = c .buffers in
+    let n : length (graphIn c .labels) ≡ c .n = length-labels (c .n) 0 0 (b .letters) (b .lengths) in
+    let m : length (graphIn c .edges) ≡ c .m = length-edges (c .m) 0 (b .edges) in
+    let k : length (graphIn c .paths) ≡ c .k = length-paths (c .k) 0 (b .paths) (b .counts) in
+    let few = h .fewVertices in
     record {
       n = sym n;
       m = sym m;
       k = sym k;
       holds = record {
-        lengths = rw n (l .lengths (omega (arith, room .lengths)));
-        letters = l .packed (omega (arith, room .letters));
-        edges = rw m (e .held (omega (arith, room .edges)));
-        counts = rw k (p .counts (omega (arith, room .counts)));
-        paths = λ i h.
-            let z : pathRoom * i ≡ pathRoom * (0 + i) = omega arith in
-            ap (λ (j : ℕ). take (length (getD paths i [])) (drop j (c .buffers .paths))) z
-            ∙ p .held (omega arith) (omega (arith, room .paths)) i (omega arith);
+        lengths = rw n (numbers-part (c .n) 0 (b .lengths) (omega (arith, room .lengths)) ∙ sym (labels-lengths (c .n) 0 0 (b .letters) (b .lengths)));
+        letters = numbers-part (length (lettersOf (graphIn c))) 0 (b .letters) (omega (arith, h .fewLetters, room .letters))
+            ∙ sym (labels-letters (c .n) 0 0 (b .letters) (b .lengths));
+        edges = rw m (numbers-part (2 * c .m) 0 (b .edges) (omega (arith, h .fewEdges, room .edges)) ∙ sym (edges-numbers-in (c .m) 0 (b .edges)));
+        counts = rw k (numbers-part (c .k) 0 (b .counts) (omega (arith, h .fewPaths, room .counts)) ∙ sym (paths-counts (c .k) 0 (b .paths) (b .counts)));
+        paths = λ i o.
+            let z : 0 + i ≡ i = omega arith in
+            let e : getD (graphIn c .paths) i [] ≡ numbersIn (getD (b .counts) i 0) (pathRoom * i) (b .paths) =
+            paths-each (c .k) 0 (b .paths) (b .counts) i (omega arith) ∙ ap (λ (j : ℕ). numbersIn (getD (b .counts) j 0) (pathRoom * j) (b .paths)) z in
+            let l = all-at (λ (p : List ℕ). (1 ≤ length p) × (length p ≤ vertexCount (graphIn c))) (graphIn c .paths) i [] (h .pathLengths) o .1 in
+            let q : length (getD (graphIn c .paths) i []) ≡ getD (b .counts) i 0 = ap length e ∙ length-numbers (getD (b .counts) i 0) (pathRoom * i) (b .paths) in
+            ap (λ (j : ℕ). take j (drop (pathRoom * i) (b .paths))) q
+            ∙ numbers-part (getD (b .counts) i 0) (pathRoom * i) (b .paths) (omega (arith, h .fewPaths, room .paths))
+            ∙ sym e;
       };
-      rules = record {
-        someVertex = omega arith;
-        fewVertices = omega arith;
-        someLetter = l .some;
-        fewLetters = omega arith;
-        letters = l .letters;
-        fewEdges = omega arith;
-        edgeEnds = rw n (e .vertices);
-        edgesRise = next-tail EdgeBelow noEdge edges (e .rise);
-        somePath = omega arith;
-        fewPaths = omega arith;
-        pathLengths = rw n (p .lengths);
-        pathVertices = rw n (p .vertices);
-        pathsRise = p .rise;
-        pathSteps = p .steps;
-        covered = rw n (cover-kept (c .n) paths cover);
-      };
+      rules = h;
     }
+
+-- what the writer takes is the graph in the used places, and keeps the rules
+pub given-in : (c : Given) (g : Graph) → graphGiven c ≡ good g → (graphIn c ≡ g) × GoodGraph g
+unfolding graphGiven
+given-in c g e =
+    (good-same (graphIn c) g (sym (given-good c (ap refusalNumber e)) ∙ e), found (wholeOf (encodeGraph (graphIn c))) refl e)
+  where
+    found : (x : Found Parsed) → wholeOf (encodeGraph (graphIn c)) ≡ x → asContent (λ p. p .graph) x ≡ good g → GoodGraph g
+    found (good p) f h =
+        subst GoodGraph (good-same (p .graph) g h) (parts-good (encodeGraph (graphIn c)) p (whole-parts (encodeGraph (graphIn c)) p f))
+    found (fault k place) f h = let z : _≡_ {A = ℕ} 0 1 = cc in absurd (omega arith)
 
 -- content that the writer takes is held, and keeps the rules
 pub given-takes : (c : Given) (g : Graph) → roomy (c .buffers) ≡ true → graphGiven c ≡ good g → Takes c g
-unfolding graphGiven
 given-takes c g r e =
-    on-refuse (vertexCountFault (c .n)) 0 _ g e (λ kn e1.
-    on-then (labelsGiven (c .n) 0 0 (c .buffers)) _ g e1 (λ labels le e2.
-    on-refuse (edgeCountFault (c .m)) 0 _ g e2 (λ km e3.
-    on-then (edgesGiven (c .n) (c .m) 0 noEdge (c .buffers .edges)) _ g e3 (λ edges ee e4.
-    on-refuse (pathCountFault (c .k)) 0 _ g e4 (λ kk e5.
-    on-then (pathsGiven (c .n) edges (c .k) 0 (c .buffers)) _ g e5 (λ paths pe e6.
-    on-refuse (coverFault (c .n) paths) 0 _ g e6 (λ cover e7.
-    subst (Takes c) (good-same _ g e7) (takes-made c labels edges paths (roomy-room (c .buffers) r) kn le km ee kk pe cover))))))))
+    let t = given-in c g e in
+    subst (Takes c) (t .0) (in-holds c (roomy-room (c .buffers) r) (subst GoodGraph (sym (t .0)) (t .1)))
 
-given-found : (c : Given) (labels : List (List ℕ)) (edges : List Edge) (paths : List (List ℕ))
-    → vertexCountFault (c .n) ≡ 0
-    → labelsGiven (c .n) 0 0 (c .buffers) ≡ good labels
-    → edgeCountFault (c .m) ≡ 0
-    → edgesGiven (c .n) (c .m) 0 noEdge (c .buffers .edges) ≡ good edges
-    → pathCountFault (c .k) ≡ 0
-    → pathsGiven (c .n) edges (c .k) 0 (c .buffers) ≡ good paths
-    → coverFault (c .n) paths ≡ 0
-    → graphGiven c ≡ good (record { labels = labels; edges = edges; paths = paths })
-unfolding graphGiven
-given-found c labels edges paths kn le km ee kk pe cover = simp (kn, le, km, ee, kk, pe, cover)
+-- content that buffers hold is the graph in their used places
+holds-in : (g : Graph) (b : Buffers) → GoodGraph g → Room b → Holds b g → graphIn (givenOf g b) ≡ g
+holds-in g b h r t =
+    let l = labels-held (g .labels) (b .letters) (b .lengths) (omega (arith, h .fewVertices, r .lengths)) (omega (arith, h .fewLetters, r .letters))
+    (t .lengths) (t .letters) in
+    let e = edges-held (g .edges) (b .edges) (omega (arith, h .fewEdges, r .edges)) (t .edges) in
+    let p = paths-held (g .paths) (b .paths) (b .counts) (omega (arith, h .fewPaths, r .counts)) (t .counts)
+    (λ j o.
+    let f = all-at (λ (q : List ℕ). (1 ≤ length q) × (length q ≤ vertexCount g)) (g .paths) j [] (h .pathLengths) o .1 in
+    omega (arith, h .fewVertices, h .fewPaths, r .paths))
+    (t .paths) in
+    ap (λ (x : List (List ℕ)). record { labels = x; edges = edgesIn (edgeCount g) 0 (b .edges); paths = pathsIn (pathCount g) 0 (b .paths) (b .counts) }) l
+    ∙ ap₂ (λ (x : List Edge) (y : List (List ℕ)). record { labels = g .labels; edges = x; paths = y }) e p
 
 -- content that is held and keeps the rules is taken
 pub holds-given : (g : Graph) (b : Buffers) → GoodGraph g → roomy b ≡ true → Holds b g → graphGiven (givenOf g b) ≡ good g
+unfolding graphGiven
 holds-given g b h e t =
-    let r = roomy-room b e in
-    given-found (givenOf g b) (g .labels) (g .edges) (g .paths)
-    (range-free 1 mostVertices (vertexCount g) (h .someVertex) (h .fewVertices))
-    (labels-given (g .labels) 0 0 b (h .someLetter) (h .letters) (omega (arith, h .fewLetters)) (omega (arith, h .fewVertices, r .lengths))
-    (omega (arith, h .fewLetters, r .letters)) (t .lengths) (t .letters))
-    (range-free 0 mostEdges (edgeCount g) (omega arith) (h .fewEdges))
-    (edges-given (vertexCount g) (g .edges) 0 noEdge (b .edges) (h .edgeEnds)
-    (none-below (vertexCount g) (g .edges) (h .edgeEnds) (h .edgesRise)) (omega (arith, h .fewEdges, r .edges)) (t .edges))
-    (range-free 1 mostPaths (pathCount g) (h .somePath) (h .fewPaths))
-    (paths-given (vertexCount g) (g .edges) (g .paths) 0 b (h .fewVertices) (h .pathLengths) (h .pathVertices) (h .pathsRise) (h .pathSteps)
-    (omega (arith, h .fewPaths, r .counts)) (omega (arith, h .fewPaths, r .paths)) (t .counts)
-    (λ j o.
-    let z : pathRoom * (0 + j) ≡ pathRoom * j = omega arith in
-    ap (λ (y : ℕ). take (length (getD (g .paths) j [])) (drop y (b .paths))) z ∙ t .paths j o))
-    (cover-free (vertexCount g) (g .paths) (h .covered))
+    ap (λ (x : Graph). asContent (λ p. p .graph) (wholeOf (encodeGraph x))) (holds-in g b h (roomy-room b e) t)
+    ∙ ap (asContent (λ p. p .graph)) (whole-again g h)
 
 -- ---- buffers that the reader has filled
 
@@ -279,22 +258,13 @@ pub holds-accepted : (g : Graph) (b : Buffers) (room : ℕ) → GoodGraph g → 
     → length (encodeGraph g) ≤ mostFileBytes → length (encodeGraph g) ≤ room → writeReply (givenOf g b) room ≡ accepted g
 holds-accepted g b room h r t short fits = reply-found (givenOf g b) g room r (holds-given g b h r t) short fits
 
-picked : {A : Type 0} (b : Bool) (x : Reply A) (k file place : ℕ) (a : A) → pick b x (refused k file place) ≡ accepted a → (b ≡ true) × (x ≡ accepted a)
-picked true x k file place a e = (refl, e)
-picked false x k file place a e = let z : _≡_ {A = ℕ} 0 1 = cc in absurd (omega arith)
-
-went-on : {A B : Type 0} (file : ℕ) (x : Found A) (go : A → Reply B) (b : B) → onAccepted (inFile file x) go ≡ accepted b
-    → (a : A) × (x ≡ good a) × (go a ≡ accepted b)
-went-on file (good a) go b e = (a, refl, e)
-went-on file (fault k place) go b e = let z : _≡_ {A = ℕ} 0 1 = cc in absurd (omega arith)
-
 -- the graph's encoding is short enough for a file and for the room
 size-kept : (room : ℕ) (g h : Graph) → sizeReply room g ≡ accepted h
     → (g ≡ h) × (length (encodeGraph g) ≤ mostFileBytes) × (length (encodeGraph g) ≤ room)
 unfolding sizeReply
 size-kept room g h e =
-    let p = picked (leb (length (encodeGraph g)) mostFileBytes) _ outOfRange graphFile mostFileBytes h e in
-    let q = picked (leb (length (encodeGraph g)) room) (accepted g) shortOutput 0 0 h (p .1) in
+    let p = test-accepted (leb (length (encodeGraph g)) mostFileBytes) _ outOfRange graphFile mostFileBytes h e in
+    let q = test-accepted (leb (length (encodeGraph g)) room) (accepted g) shortOutput 0 0 h (p .1) in
     (cc, leb-true (length (encodeGraph g)) mostFileBytes (p .0), leb-true (length (encodeGraph g)) room (q .0))
 
 -- what an acceptance of the writer says
@@ -308,10 +278,10 @@ pub record Written (c : Given) (room : ℕ) (g : Graph) : Type 0 where
 pub write-read : (c : Given) (room : ℕ) (g : Graph) → writeReply c room ≡ accepted g → Written c room g
 unfolding writeReply
 write-read c room g e =
-    let p = picked (roomy (c .buffers)) _ smallBuffer 0 0 g e in
-    let q = went-on graphFile (graphGiven c) (sizeReply room) g (p .1) in
+    let p = test-accepted (roomy (c .buffers)) _ smallBuffer 0 0 g e in
+    let q = on-accepted (inFile graphFile (graphGiven c)) (sizeReply room) g (p .1) in
     let s = size-kept room (q .0) g (q .2) in
-    let t = given-takes c (q .0) (p .0) (q .1) in
+    let t = given-takes c (q .0) (p .0) (file-accepted graphFile (graphGiven c) (q .0) (q .1)) in
     subst (Written c room) (s .0)
     (record { takes = t; short = s .1; fits = s .2; again = graph-again (q .0) (t .rules) (s .1) })
 
@@ -334,12 +304,8 @@ read-write s p b room out y e r fits =
 pub read-accepted : (s : List ℕ) (b : Buffers) (p : Parsed) → readReply s b ≡ accepted p → (roomy b ≡ true) × (graphOf s ≡ good p)
 unfolding readReply
 read-accepted s b p e =
-    let q = picked (roomy b) (inFile graphFile (graphOf s)) smallBuffer 0 0 p e in
-    (q .0, found (graphOf s) (q .1))
-  where
-    found : (x : Found Parsed) → inFile graphFile x ≡ accepted p → x ≡ good p
-    found (good a) f = cc
-    found (fault k place) f = let z : _≡_ {A = ℕ} 0 1 = cc in absurd (omega arith)
+    let q = test-accepted (roomy b) (inFile graphFile (graphOf s)) smallBuffer 0 0 p e in
+    (q .0, file-accepted graphFile (graphOf s) p (q .1))
 
 -- a graph's encoding is accepted by the reader, and the buffers then hold the graph
 pub read-again-holds : (g : Graph) (b : Buffers) → GoodGraph g → length (encodeGraph g) ≤ mostFileBytes → roomy b ≡ true
@@ -357,12 +323,76 @@ read-then-write s b p room out y e fits =
     let q = read-accepted s b p e in
     rw e (read-write s p b room out y (q .1) (q .0) fits)
 
--- written, then read: the same content in the used places
-pub write-then-read : (c : Given) (room : ℕ) (g : Graph) (b : Buffers) → writeReply c room ≡ accepted g → roomy b ≡ true
-    → (readReply (encodeGraph g) b ≡ accepted (parsedOf g))
-    × Holds (c .buffers) g
-    × Holds (readAfter (readReply (encodeGraph g) b) b) g
-write-then-read c room g b e r =
+-- written, then read: the bytes at the output's front are accepted, with the same counts and the same content in the used places
+pub record ReadAgain (c : Given) (room : ℕ) (out : List ℕ) (g : Graph) (b : Buffers) : Type 0 where
+  pub bytes : writeAfter (writeReply c room) out ≡ front (encodeGraph g) out
+  pub reply : readReply (encodeGraph g) b ≡ accepted (parsedOf g)
+  pub n : c .n ≡ vertexCount g
+  pub m : c .m ≡ edgeCount g
+  pub k : c .k ≡ pathCount g
+  pub given : Holds (c .buffers) g
+  pub read : Holds (readAfter (readReply (encodeGraph g) b) b) g
+
+pub write-then-read : (c : Given) (room : ℕ) (out : List ℕ) (g : Graph) (b : Buffers) → writeReply c room ≡ accepted g → roomy b ≡ true
+    → ReadAgain c room out g b
+write-then-read c room out g b e r =
     let w = write-read c room g e in
     let q = read-again-holds g b (w .takes .rules) (w .short) r in
-    (q .0, w .takes .holds, q .1)
+    record {
+      bytes = ap (λ (x : Reply Graph). writeAfter x out) e;
+      reply = q .0;
+      n = w .takes .n;
+      m = w .takes .m;
+      k = w .takes .k;
+      given = w .takes .holds;
+      read = q .1;
+    }
+
+-- ---- when there is too little room
+
+-- why the writer gives 14: the content is taken, its file is not too long, and its encoding is longer than the room
+pub record TooShort (c : Given) (room : ℕ) : Type 0 where
+  pub full : roomy (c .buffers) ≡ true
+  pub graph : Graph
+  pub takes : graphGiven c ≡ good graph
+  pub short : length (encodeGraph graph) ≤ mostFileBytes
+  pub longer : room < length (encodeGraph graph)
+
+module _ (c : Given) (room : ℕ) where
+  size-short : (g : Graph) → roomy (c .buffers) ≡ true → graphGiven c ≡ good g → sizeReply room g ≡ refused shortOutput 0 0 → TooShort c room
+  unfolding sizeReply
+  size-short g r e h =
+      elim (test-refused (leb (length (encodeGraph g)) mostFileBytes) _ outOfRange graphFile mostFileBytes shortOutput 0 0 h) [
+        | inr x ↦ absurd (omega (arith, x .1))
+        | inl x ↦ elim (test-refused (leb (length (encodeGraph g)) room) (accepted g) shortOutput 0 0 shortOutput 0 0 (x .1)) [
+          | inl y ↦ let f = y .1 in let z : _≡_ {A = ℕ} 0 1 = cc in absurd (omega arith)
+          | inr y ↦ record {
+            full = r;
+            graph = g;
+            takes = e;
+            short = leb-true (length (encodeGraph g)) mostFileBytes (x .0);
+            longer = leb-false (length (encodeGraph g)) room (y .0);
+          }
+        ]
+      ]
+
+  -- "14, which is given exactly if the encoding is longer than the room", where no fault comes before it
+  pub writer-short : (writeReply c room ≡ refused shortOutput 0 0) ↔ TooShort c room
+  unfolding writeReply sizeReply
+  writer-short = (
+    λ h.
+        elim (test-refused (roomy (c .buffers)) _ smallBuffer 0 0 shortOutput 0 0 h) [
+          | inr x ↦ absurd (omega (arith, x .1))
+          | inl x ↦ elim (on-refused (inFile graphFile (graphGiven c)) (sizeReply room) shortOutput 0 0 (x .1)) [
+            | inl y ↦ absurd (omega (arith, file-refused graphFile (graphGiven c) shortOutput 0 0 y .1))
+            | inr y ↦ size-short (y .0) (x .0) (file-accepted graphFile (graphGiven c) (y .0) (y .1)) (y .2)
+          ]
+        ],
+    λ t.
+        simp (
+          t .full,
+          t .takes,
+          le-leb (length (encodeGraph (t .graph))) mostFileBytes (t .short),
+          lt-leb (length (encodeGraph (t .graph))) room (t .longer),
+        ),
+  )

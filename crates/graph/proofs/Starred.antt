@@ -9,7 +9,7 @@ use Rattle.wire.specs.Found.{good, fault}
 use Rattle.graph.specs.Content.{Graph}
 use Rattle.graph.specs.Rules.{edgeFault, isEdge, isStep, vertexFault, isOn, isOnAny, allOn, coverFault}
 use Rattle.graph.specs.Encode.{encodeGraph, encodeLabels, encodeEdges, encodePaths, encodeNumbers}
-use Rattle.graph.specs.Reading.{graphOf, frontOf, restOf, lettersFrom, labelsFrom, edgesFrom, verticesFrom, pathsFrom}
+use Rattle.graph.specs.Reading.{graphOf, frontIn, frontOf, restOf, lettersFrom, labelsFrom, edgesFrom, verticesFrom, pathsFrom}
 
 -- the graph of one vertex A and one path
 abbrev pub one : Graph
@@ -17,36 +17,36 @@ one = record { labels = (0x41 ∷ []) ∷ []; edges = []; paths = (1 ∷ []) ∷
 
 -- "Empty graph file: 1, place 0."
 pub empty-file : graphOf [] ≡ fault 1 0
-unfolding graphOf frontOf numberAt
+unfolding graphOf frontOf frontIn numberAt
 empty-file = refl
 
 -- "01 01 01 41 00 01 01 01 accepted"
 pub one-accepted : graphOf (1 ∷ 1 ∷ 1 ∷ 0x41 ∷ 0 ∷ 1 ∷ 1 ∷ 1 ∷ []) ≡ good (record { graph = one; labelsAt = 2; edgesAt = 5; pathsAt = 6 })
-unfolding graphOf frontOf restOf numberAt labelsFrom lettersFrom isLetter edgesFrom pathsFrom verticesFrom vertexFault isStep isEdge coverFault allOn isOnAny isOn
+unfolding graphOf frontOf frontIn restOf numberAt labelsFrom lettersFrom isLetter edgesFrom pathsFrom verticesFrom vertexFault isStep isEdge coverFault allOn isOnAny isOn
 one-accepted = refl
 
 -- "one byte less: 1, place 7; one more: 10, place 8"
 pub one-less : graphOf (1 ∷ 1 ∷ 1 ∷ 0x41 ∷ 0 ∷ 1 ∷ 1 ∷ []) ≡ fault 1 7
-unfolding graphOf frontOf restOf numberAt labelsFrom lettersFrom isLetter edgesFrom pathsFrom verticesFrom
+unfolding graphOf frontOf frontIn restOf numberAt labelsFrom lettersFrom isLetter edgesFrom pathsFrom verticesFrom
 one-less = refl
 
-pub one-more : graphOf (1 ∷ 1 ∷ 1 ∷ 0x41 ∷ 0 ∷ 1 ∷ 1 ∷ 1 ∷ 0 ∷ []) ≡ fault 10 8
-unfolding graphOf frontOf restOf numberAt labelsFrom lettersFrom isLetter edgesFrom pathsFrom verticesFrom vertexFault isStep isEdge coverFault allOn isOnAny isOn
-one-more = refl
+pub one-more : (b : ℕ) → graphOf (1 ∷ 1 ∷ 1 ∷ 0x41 ∷ 0 ∷ 1 ∷ 1 ∷ 1 ∷ b ∷ []) ≡ fault 10 8
+unfolding graphOf frontOf frontIn restOf numberAt labelsFrom lettersFrom isLetter edgesFrom pathsFrom verticesFrom vertexFault isStep isEdge coverFault allOn isOnAny isOn
+one-more b = refl
 
 -- "01 01 01 41 00 00: 4, place 5."
 pub no-path : graphOf (1 ∷ 1 ∷ 1 ∷ 0x41 ∷ 0 ∷ 0 ∷ []) ≡ fault 4 5
-unfolding graphOf frontOf restOf numberAt labelsFrom lettersFrom isLetter edgesFrom
+unfolding graphOf frontOf frontIn restOf numberAt labelsFrom lettersFrom isLetter edgesFrom
 no-path = refl
 
 -- "01 02 01 41 01 43 00 01 01 01: 9, place 10."
 pub off-path : graphOf (1 ∷ 2 ∷ 1 ∷ 0x41 ∷ 1 ∷ 0x43 ∷ 0 ∷ 1 ∷ 1 ∷ 1 ∷ []) ≡ fault 9 10
-unfolding graphOf frontOf restOf numberAt labelsFrom lettersFrom isLetter edgesFrom pathsFrom verticesFrom vertexFault isStep isEdge coverFault allOn isOnAny isOn
+unfolding graphOf frontOf frontIn restOf numberAt labelsFrom lettersFrom isLetter edgesFrom pathsFrom verticesFrom vertexFault isStep isEdge coverFault allOn isOnAny isOn
 off-path = refl
 
 -- the same with a byte left over: "After the last path: 9, then 10."
 pub off-path-more : graphOf (1 ∷ 2 ∷ 1 ∷ 0x41 ∷ 1 ∷ 0x43 ∷ 0 ∷ 1 ∷ 1 ∷ 1 ∷ 0 ∷ []) ≡ fault 9 10
-unfolding graphOf frontOf restOf numberAt labelsFrom lettersFrom isLetter edgesFrom pathsFrom verticesFrom vertexFault isStep isEdge coverFault allOn isOnAny isOn
+unfolding graphOf frontOf frontIn restOf numberAt labelsFrom lettersFrom isLetter edgesFrom pathsFrom verticesFrom vertexFault isStep isEdge coverFault allOn isOnAny isOn
 off-path-more = refl
 
 -- "Graph G1": labels AC, G, TT, CA; edges 1-2, 1-3, 2-4, 3-4; paths 1 2 4 and 1 3 4
@@ -69,5 +69,5 @@ unfolding encodeGraph encodeLabels encodeEdges encodePaths encodeNumbers encode
 G1-written = refl
 
 pub G1-accepted : graphOf G1-file ≡ good (record { graph = G1; labelsAt = 2; edgesAt = 14; pathsAt = 23 })
-unfolding graphOf frontOf restOf numberAt labelsFrom lettersFrom isLetter edgesFrom edgeFault pathsFrom verticesFrom vertexFault isStep isEdge coverFault allOn isOnAny isOn
+unfolding graphOf frontOf frontIn restOf numberAt labelsFrom lettersFrom isLetter edgesFrom edgeFault pathsFrom verticesFrom vertexFault isStep isEdge coverFault allOn isOnAny isOn
 G1-accepted = refl

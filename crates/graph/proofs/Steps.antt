@@ -28,7 +28,7 @@ pub letters-step : (left : ℕ) (s : List ℕ) (at : ℕ) (r : List ℕ) → let
 unfolding lettersFrom
 letters-step left s at r e =
     let a = pick-good (ltb at (length s)) _ bytesEnd (length s) r e in
-    let b = refuse-good (letterFault (getD s at 0)) at _ r (a .1) in
+    let b = refuse-good (letterFault (getD s at 0)) _ _ r (a .1) in
     let c = then-good (lettersFrom left s (at + 1)) _ r (b .1) in
     record { there = ltb-true at (length s) (a .0); kept = b .0; rest = c .0; restIs = c .1; whole = cc }
 

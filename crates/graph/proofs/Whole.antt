@@ -18,7 +18,7 @@ use Rattle.graph.specs.Reading.{Parsed, graphOf}
 use Rattle.graph.specs.Placed.{labelsStart, edgesStart, pathsStart, parsedOf}
 use Rattle.graph.proofs.Kept.{cover-kept}
 use Rattle.graph.proofs.Accepting.{next-tail}
-use Rattle.graph.proofs.Parted.{Parts, parts}
+use Rattle.graph.proofs.Parted.{Parts, short-whole, parts}
 
 -- the content keeps every rule
 pub parts-good : (s : List ℕ) (p : Parsed) → Parts s p → GoodGraph (p .graph)
@@ -112,4 +112,4 @@ pub record Taken (s : List ℕ) (p : Parsed) : Type 0 where
 pub taken : (s : List ℕ) (p : Parsed) → Bytes s → graphOf s ≡ good p → Taken s p
 taken s p b e =
     let t = parts s p e in
-    record { bytes = parts-bytes s p b t; short = t .front .short; rules = parts-good s p t; places = parts-places s p b t }
+    record { bytes = parts-bytes s p b t; short = short-whole s p e .0; rules = parts-good s p t; places = parts-places s p b t }

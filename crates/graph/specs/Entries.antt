@@ -1,18 +1,17 @@
 -- What the entries reply, and what the lent buffers hold afterwards, in every case.
 use Prim.Native.Nat.{ℕ, zero, suc, _+_, _*_}
 use mathlib.Core.List.{List, [], _∷_}
-use mathlib.Core.Bool.{Bool, true, false, _&&_}
+use mathlib.Core.Bool.{Bool, _&&_}
 use lib.ListN.{length, getD}
 use lib.Dec.{leb}
 use Rattle.wire.specs.Cases.{pick}
-use Rattle.wire.specs.Found.{Found, good, fault, andThen, refuse, Reply, accepted, refused, inFile, onAccepted}
+use Rattle.wire.specs.Found.{Found, asContent, Reply, accepted, refused, inFile, onAccepted}
 use Rattle.wire.specs.Lent.{laid, front}
 use Rattle.wire.specs.Refusals.{outOfRange, smallBuffer, shortOutput, graphFile}
 use Rattle.wire.specs.Sizes.{mostFileBytes, fullLetters, fullLengths, fullEdges, fullPaths, fullCounts, pathRoom}
 use Rattle.graph.specs.Content.{Edge, Graph, lettersOf, lengthsOf, edgeNumbers, pathNumbers, countsOf}
-use Rattle.graph.specs.Rules.{vertexCountFault, lengthFault, letterFault, edgeCountFault, noEdge, edgeFault, pathCountFault, pathLengthFault, vertexFault, coverFault}
 use Rattle.graph.specs.Encode.{encodeGraph}
-use Rattle.graph.specs.Reading.{Parsed, graphOf}
+use Rattle.graph.specs.Reading.{Parsed, wholeOf, graphOf}
 
 -- ---- the reader
 
@@ -64,59 +63,43 @@ pub record Given : Type 0 where
   pub k : ℕ
   pub buffers : Buffers
 
--- A writer gives the faults of the content "as the reader would for that content (with place 0 for faults of the content)".
--- The letters of a label, `left` of them, from a place of the letters on.
-unfoldable pub lettersGiven : ℕ → List ℕ → ℕ → Found (List ℕ)
-lettersGiven zero letters at = good []
-lettersGiven (suc left) letters at =
-    refuse (letterFault (getD letters at 0)) 0
-    (andThen (lettersGiven left letters (at + 1)) (λ ls. good (getD letters at 0 ∷ ls)))
+-- Content taken from the buffers without any test: "Content means the used places."
+-- The numbers, `left` of them, from a place on.
+unfoldable pub numbersIn : ℕ → ℕ → List ℕ → List ℕ
+numbersIn zero at s = []
+numbersIn (suc left) at s = getD s at 0 ∷ numbersIn left (at + 1) s
 
 -- the labels, `left` of them, from label i on (counted from 0), after labels of `sum` letters together
-unfoldable pub labelsGiven : ℕ → ℕ → ℕ → Buffers → Found (List (List ℕ))
-labelsGiven zero i sum b = good []
-labelsGiven (suc left) i sum b =
-    refuse (lengthFault sum (getD (b .lengths) i 0)) 0
-    (andThen (lettersGiven (getD (b .lengths) i 0) (b .letters) sum) (λ l.
-    andThen (labelsGiven left (i + 1) (sum + getD (b .lengths) i 0) b) (λ ls. good (l ∷ ls))))
+unfoldable pub labelsIn : ℕ → ℕ → ℕ → List ℕ → List ℕ → List (List ℕ)
+labelsIn zero i sum letters lengths = []
+labelsIn (suc left) i sum letters lengths =
+    numbersIn (getD lengths i 0) sum letters ∷ labelsIn left (i + 1) (sum + getD lengths i 0) letters lengths
 
 -- edge i of the edges' numbers, counted from 0
 abbrev pub edgeIn : List ℕ → ℕ → Edge
 edgeIn edges i = record { from = getD edges (2 * i) 0; to = getD edges (2 * i + 1) 0 }
 
--- the edges, `left` of them, from edge i on, after the edge `last`
-unfoldable pub edgesGiven : ℕ → ℕ → ℕ → Edge → List ℕ → Found (List Edge)
-edgesGiven n zero i last edges = good []
-edgesGiven n (suc left) i last edges =
-    refuse (edgeFault n last (edgeIn edges i)) 0
-    (andThen (edgesGiven n left (i + 1) (edgeIn edges i) edges) (λ es. good (edgeIn edges i ∷ es)))
+-- the edges, `left` of them, from edge i on
+unfoldable pub edgesIn : ℕ → ℕ → List ℕ → List Edge
+edgesIn zero i edges = []
+edgesIn (suc left) i edges = edgeIn edges i ∷ edgesIn left (i + 1) edges
 
--- a path's vertices, `left` of them, from a place of the paths on, after the vertex `last`, or 0
-unfoldable pub verticesGiven : ℕ → List Edge → ℕ → ℕ → ℕ → List ℕ → Found (List ℕ)
-verticesGiven n es zero at last paths = good []
-verticesGiven n es (suc left) at last paths =
-    refuse (vertexFault n es last (getD paths at 0)) 0
-    (andThen (verticesGiven n es left (at + 1) (getD paths at 0) paths) (λ vs. good (getD paths at 0 ∷ vs)))
+-- the paths, `left` of them, from path i on (counted from 0): "Path i starts at place 1,024(i − 1)"
+unfoldable pub pathsIn : ℕ → ℕ → List ℕ → List ℕ → List (List ℕ)
+pathsIn zero i paths counts = []
+pathsIn (suc left) i paths counts = numbersIn (getD counts i 0) (pathRoom * i) paths ∷ pathsIn left (i + 1) paths counts
 
--- the paths, `left` of them, from path i on (counted from 0)
-unfoldable pub pathsGiven : ℕ → List Edge → ℕ → ℕ → Buffers → Found (List (List ℕ))
-pathsGiven n es zero i b = good []
-pathsGiven n es (suc left) i b =
-    refuse (pathLengthFault n (getD (b .counts) i 0)) 0
-    (andThen (verticesGiven n es (getD (b .counts) i 0) (pathRoom * i) 0 (b .paths)) (λ p.
-    andThen (pathsGiven n es left (i + 1) b) (λ ps. good (p ∷ ps))))
+-- the graph in the used places
+abbrev pub graphIn : Given → Graph
+graphIn c = record {
+  labels = labelsIn (c .n) 0 0 (c .buffers .letters) (c .buffers .lengths);
+  edges = edgesIn (c .m) 0 (c .buffers .edges);
+  paths = pathsIn (c .k) 0 (c .buffers .paths) (c .buffers .counts);
+}
 
--- the graph that is given, or the first fault of the content, in the reader's order
+-- the graph that is given, or the first fault of the content: "as the reader would for that content"
 unfoldable pub graphGiven : Given → Found Graph
-graphGiven c =
-    refuse (vertexCountFault (c .n)) 0
-    (andThen (labelsGiven (c .n) 0 0 (c .buffers)) (λ labels.
-    refuse (edgeCountFault (c .m)) 0
-    (andThen (edgesGiven (c .n) (c .m) 0 noEdge (c .buffers .edges)) (λ edges.
-    refuse (pathCountFault (c .k)) 0
-    (andThen (pathsGiven (c .n) edges (c .k) 0 (c .buffers)) (λ paths.
-    refuse (coverFault (c .n) paths) 0
-    (good (record { labels = labels; edges = edges; paths = paths }))))))))
+graphGiven c = asContent (λ p. p .graph) (wholeOf (encodeGraph (graphIn c)))
 
 -- "then 4 with place 65,536 if the file would pass 65,536 bytes, then 14, which is given exactly if the encoding is longer than the room"
 unfoldable pub sizeReply : ℕ → Graph → Reply Graph

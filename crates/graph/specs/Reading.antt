@@ -65,11 +65,10 @@ pub record Front : Type 0 where
   pub edgesAt : ℕ
   pub next : ℕ
 
--- "file too long; then byte by byte from the front": the kind, n, the labels, m, the edges
-unfoldable pub frontOf : ℕ → List ℕ → Found Front
-frontOf wanted s =
-    refuse (pick (leb (length s) mostFileBytes) 0 outOfRange) mostFileBytes
-    (number s 0 (λ kind a.
+-- "byte by byte from the front": the kind, n, the labels, m, the edges
+unfoldable pub frontIn : ℕ → List ℕ → Found Front
+frontIn wanted s =
+    number s 0 (λ kind a.
     refuse (pick (eqb kind wanted) 0 wrongKind) 0
     (number s a (λ n b.
     refuse (vertexCountFault n) a
@@ -77,7 +76,11 @@ frontOf wanted s =
     number s (labels .next) (λ m c.
     refuse (edgeCountFault m) (labels .next)
     (andThen (edgesFrom n m noEdge s c) (λ edges.
-    good (record { labels = labels .content; edges = edges .content; labelsAt = b; edgesAt = c; next = edges .next }))))))))))
+    good (record { labels = labels .content; edges = edges .content; labelsAt = b; edgesAt = c; next = edges .next })))))))))
+
+-- "file too long; then byte by byte from the front"
+unfoldable pub frontOf : ℕ → List ℕ → Found Front
+frontOf wanted s = refuse (pick (leb (length s) mostFileBytes) 0 outOfRange) mostFileBytes (frontIn wanted s)
 
 -- an accepted file: its content, and where its labels, edges and paths start
 pub record Parsed : Type 0 where
@@ -100,6 +103,10 @@ restOf s f =
       edgesAt = f .edgesAt;
       pathsAt = d;
     }))))))
+
+-- what the bytes s are read as, however many they are
+unfoldable pub wholeOf : List ℕ → Found Parsed
+wholeOf s = andThen (frontIn graphKind s) (restOf s)
 
 -- what reading the graph file s finds
 unfoldable pub graphOf : List ℕ → Found Parsed

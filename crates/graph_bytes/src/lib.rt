@@ -8,10 +8,11 @@ use wire::sizes::GRAPH_KIND;
 ghost use mathlib.Core.Path.{_≡_};
 ghost use Prim.Native.Nat.{_≤_};
 ghost use lib.ListN.{length};
+ghost use Rattle.wire.specs.Found.{refusalNumber};
 ghost use Rattle.wire.specs.Lent.{front};
 ghost use Rattle.graph.specs.Encode.{encodeGraph};
-ghost use Rattle.graph_content.specs.Used.{givenOf, Full, graphIn};
-ghost use Rattle.graph_content.specs.Faults.{contentFault};
+ghost use Rattle.graph.specs.Entries.{graphIn, graphGiven};
+ghost use Rattle.graph_content.specs.Used.{givenOf, Full};
 
 // How many bytes the encoding of content without fault takes.
 pub fn graph_size(
@@ -25,7 +26,7 @@ pub fn graph_size(
     counts: &[u32],
 ) -> usize
     requires { ⌜ Full (length (now letters)) (length (now lengths)) (length (now edges)) (length (now paths)) (length (now counts)) ⌝ }
-    requires { ⌜ contentFault (givenOf n m k (now letters) (now lengths) (now edges) (now paths) (now counts)) ≡ 0 ⌝ }
+    requires { ⌜ refusalNumber (graphGiven (givenOf n m k (now letters) (now lengths) (now edges) (now paths) (now counts))) ≡ 0 ⌝ }
     ensures { λ r. ⌜ r ≡ length (encodeGraph (graphIn (givenOf n m k
         (now (letters .entry)) (now (lengths .entry)) (now (edges .entry)) (now (paths .entry)) (now (counts .entry))))) ⌝ }
 {
@@ -48,7 +49,7 @@ pub fn put_graph(
     out: &mut [u8],
 ) -> usize
     requires { ⌜ Full (length (now letters)) (length (now lengths)) (length (now edges)) (length (now paths)) (length (now counts)) ⌝ }
-    requires { ⌜ contentFault (givenOf n m k (now letters) (now lengths) (now edges) (now paths) (now counts)) ≡ 0 ⌝ }
+    requires { ⌜ refusalNumber (graphGiven (givenOf n m k (now letters) (now lengths) (now edges) (now paths) (now counts))) ≡ 0 ⌝ }
     requires { ⌜ length (encodeGraph (graphIn (givenOf n m k (now letters) (now lengths) (now edges) (now paths) (now counts)))) ≤ length (now out) ⌝ }
     ensures { λ r. ⌜ (r ≡ length (encodeGraph (graphIn (givenOf n m k
         (now (letters .entry)) (now (lengths .entry)) (now (edges .entry)) (now (paths .entry)) (now (counts .entry))))))

@@ -9,7 +9,8 @@ ghost use lib.ListN.{length};
 ghost use Rattle.wire.specs.Sizes.{mostVertices, mostPaths, fullLetters, fullLengths, fullPaths, fullCounts};
 ghost use Rattle.wire.specs.Lent.{front};
 ghost use Rattle.graph.specs.Encode.{encodeNumbers, encodeLabels, encodePaths};
-ghost use Rattle.graph_content.specs.Used.{labelsIn, pathsIn, Roomed};
+ghost use Rattle.graph.specs.Entries.{labelsIn, pathsIn};
+ghost use Rattle.graph_content.specs.Used.{Roomed};
 ghost use Rattle.graph_content.specs.Faults.{labelsFault};
 
 // Writes numbers, one after the other, and says how many bytes that took. The caller has seen that there is room.

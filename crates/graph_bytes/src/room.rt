@@ -7,7 +7,8 @@ ghost use Prim.Native.Nat.{_^_, _≤_, _<_};
 ghost use lib.ListN.{length};
 ghost use Rattle.wire.specs.Sizes.{mostVertices, mostPaths, fullLengths, fullPaths, fullCounts};
 ghost use Rattle.graph.specs.Encode.{encodeNumbers, encodePaths};
-ghost use Rattle.graph_content.specs.Used.{labelsSize, pathsIn, Roomed};
+ghost use Rattle.graph.specs.Entries.{pathsIn};
+ghost use Rattle.graph_content.specs.Used.{labelsSize, Roomed};
 
 // How many bytes numbers take, one after the other.
 pub fn numbers_size(numbers: &[u32]) -> usize

@@ -19,7 +19,7 @@ use Rattle.wire.specs.declared.numbers.Number.the-variants.{Value, Fault}
 use Rattle.wire.proofs.NumberLaws.{number-within}
 use Rattle.graph.specs.Content.{Edge}
 use Rattle.graph.specs.Rules.{noEdge, edgeCountFault, allOn, coverFault}
-use Rattle.graph.specs.Reading.{Front, Parsed, labelsFrom, edgesFrom, pathsFrom, frontOf, restOf, graphOf}
+use Rattle.graph.specs.Reading.{Front, Parsed, labelsFrom, edgesFrom, pathsFrom, frontIn, frontOf, restOf, graphOf}
 use Rattle.graph_parts.specs.Answers.{countAt, answered}
 use Rattle.graph_paths.specs.PathAnswers.{HasEdges, entries, edgesIn, Marked}
 use Rattle.graph_paths.specs.Marks.{Marks, allMarked}
@@ -59,22 +59,22 @@ countOn s n b = andThen (labelsFrom n 0 s b) (labelsOn s n b)
 
 module _ (s : List ℕ) where
   pub front-long : mostFileBytes < length s → frontOf graphKind s ≡ fault outOfRange mostFileBytes
-  unfolding frontOf
+  unfolding frontOf frontIn
   front-long h = simp (lt-leb (length s) mostFileBytes h)
 
   module _ (short : length s ≤ mostFileBytes) where
     pub front-stop : {k p : ℕ} → numberAt s 0 ≡ Fault k p → frontOf graphKind s ≡ fault k p
-    unfolding frontOf
+    unfolding frontOf frontIn
     front-stop e = simp (le-leb (length s) mostFileBytes short, e)
 
     module _ {kind : ℕ} {a : Cursor} (e : numberAt s 0 ≡ Value kind a) where
       pub front-kind : (kind ≡ graphKind → ⊥) → frontOf graphKind s ≡ fault wrongKind 0
-      unfolding frontOf
+      unfolding frontOf frontIn
       front-kind n = simp (le-leb (length s) mostFileBytes short, e, ne-eqb kind graphKind n)
 
       module _ (same : kind ≡ graphKind) where
         from-kind : frontOf graphKind s ≡ onNumber (countAt 1 mostVertices s (a .at)) (countOn s)
-        unfolding frontOf
+        unfolding frontOf frontIn
         from-kind =
             simp (le-leb (length s) mostFileBytes short, e, eq-eqb kind graphKind same)
             (count-on 1 mostVertices s (a .at) (countOn s))

@@ -1,8 +1,8 @@
 -- The encoding of what stands in the used places, part after part, and its length.
 -- Assumes nothing.
-use Prim.Native.Nat.{ℕ, zero, suc, _+_, _-_, _*_, _^_, _≤_, _<_}
-use mathlib.Core.Path.{_≡_, refl, sym, ap, ap₂, _∙_}
-use mathlib.Core.List.{List, [], _∷_, _++_, append-assoc}
+use Prim.Native.Nat.{ℕ, zero, suc, _+_, _-_, _*_, _≤_, _<_}
+use mathlib.Core.Path.{_≡_, refl, sym, ap, _∙_}
+use mathlib.Core.List.{List, [], _∷_, _++_}
 use native.Mathlib.Omega.{arith}
 use native.Mathlib.Numerals.{add-one}
 use lib.ListN.{length, getD, take, drop, length-append, drop-of-length-le}
@@ -10,10 +10,11 @@ use lib.Seq.{drop-cons}
 use Rattle.wire.specs.Numbers.{encode}
 use Rattle.wire.specs.Sizes.{graphKind, pathRoom}
 use Rattle.wire.proofs.Encoding.{encode-most}
-use Rattle.graph.specs.Content.{Edge}
 use Rattle.graph.specs.Encode.{encodeNumbers, encodeLabels, encodeEdges, encodePaths, encodeGraph}
-use Rattle.graph.specs.Entries.{Given, edgeIn}
-use Rattle.graph_content.specs.Used.{numbersIn, labelsIn, edgesIn, pathsIn, graphIn, labelsSize}
+use Rattle.graph.specs.Entries.{Given, numbersIn, labelsIn, edgesIn, pathsIn, graphIn}
+use Rattle.graph.proofs.Givens.{length-labels, length-edges, length-paths}
+pub use Rattle.graph.proofs.Givens.{length-numbers, numbers-part}
+use Rattle.graph_content.specs.Used.{labelsSize}
 
 -- one of n more is left before place i than after it
 pub left-more : (n i : ℕ) → i < n → n - i ≡ suc (n - (i + 1))
@@ -27,11 +28,6 @@ left-none n i h = omega arith
 
 -- ---- numbers
 
-pub length-numbers : (left at : ℕ) (s : List ℕ) → length (numbersIn left at s) ≡ left
-unfolding numbersIn
-length-numbers zero at s = refl
-length-numbers (suc left) at s = ap suc (length-numbers left (at + 1) s)
-
 pub numbers-at : (left at j : ℕ) (s : List ℕ) → j < left → getD (numbersIn left at s) j 0 ≡ getD s (at + j) 0
 unfolding numbersIn
 numbers-at zero at j s h = absurd (omega arith)
@@ -39,13 +35,6 @@ numbers-at (suc left) at zero s h = let e : at + 0 ≡ at = omega arith in ap (�
 numbers-at (suc left) at (suc j) s h =
     let e : at + 1 + j ≡ at + suc j = omega arith in
     numbers-at left (at + 1) j s (omega arith) ∙ ap (λ (i : ℕ). getD s i 0) e
-
--- the part of a slice that is lent
-pub numbers-part : (left at : ℕ) (s : List ℕ) → at + left ≤ length s → take left (drop at s) ≡ numbersIn left at s
-unfolding numbersIn
-numbers-part zero at s h = refl
-numbers-part (suc left) at s h =
-    rw (drop-cons s at 0 (omega arith), ← add-one at) (ap (λ (t : List ℕ). getD s at 0 ∷ t) (numbers-part left (at + 1) s (omega arith)))
 
 -- the same where the part is told by its two ends
 pub numbers-between : (a e left : ℕ) (s : List ℕ) → e ≡ a + left → e ≤ length s → take (e - a) (drop a s) ≡ numbersIn left a s
@@ -124,21 +113,6 @@ module _ (paths counts : List ℕ) (k i : ℕ) where
   paths-end h = simp (left-none k i h)
 
 -- ---- the whole
-
-length-labels : (left i sum : ℕ) (letters lengths : List ℕ) → length (labelsIn left i sum letters lengths) ≡ left
-unfolding labelsIn
-length-labels zero i sum letters lengths = refl
-length-labels (suc left) i sum letters lengths = ap suc (length-labels left (i + 1) (sum + getD lengths i 0) letters lengths)
-
-length-edges : (left i : ℕ) (edges : List ℕ) → length (edgesIn left i edges) ≡ left
-unfolding edgesIn
-length-edges zero i edges = refl
-length-edges (suc left) i edges = ap suc (length-edges left (i + 1) edges)
-
-length-paths : (left i : ℕ) (paths counts : List ℕ) → length (pathsIn left i paths counts) ≡ left
-unfolding pathsIn
-length-paths zero i paths counts = refl
-length-paths (suc left) i paths counts = ap suc (length-paths left (i + 1) paths counts)
 
 -- the bytes of the graph in the used places, section after section
 pub graph-bytes : (c : Given)

@@ -1,14 +1,15 @@
 -- The first fault of content, step by step, and what it says that there is none.
 -- Assumes nothing.
-use Prim.Native.Nat.{ℕ, zero, suc, _+_, _-_, _*_, _≤_, _<_}
-use mathlib.Core.Path.{_≡_, refl, sym, ap, _∙_}
-use mathlib.Core.List.{List, [], _∷_}
+use Prim.Native.Nat.{ℕ, suc, _+_, _-_, _*_, _≤_, _<_}
+use mathlib.Core.Path.{_≡_, refl, sym, _∙_}
+use mathlib.Core.List.{List}
 use mathlib.Core.Bool.{Bool, true, false, _&&_}
 use native.Mathlib.Omega.{arith}
 use native.Mathlib.Decide.{ℕ-discrete, decLe}
-use lib.ListN.{length, getD}
-use lib.Dec.{eqb, leb, ltb}
+use lib.ListN.{getD}
+use lib.Dec.{leb, ltb}
 use borrow.Author.Tests.{eq-eqb, ne-eqb, le-leb, lt-leb, le-ltb}
+use Rattle.wire.specs.Found.{first}
 use Rattle.wire.specs.Cases.{pick}
 use Rattle.wire.specs.Refusals.{outOfRange, noVertex, notRising, notEdge}
 use Rattle.wire.specs.Sizes.{pathRoom}
@@ -16,7 +17,7 @@ use Rattle.graph.specs.Content.{Edge}
 use Rattle.graph.specs.Rules.{lengthFault, letterFault, edgeFault, pathLengthFault, isVertex, isEdge, isStep, vertexFault}
 use Rattle.graph_rules.specs.Rise.{riseFault}
 use Rattle.graph.specs.Entries.{edgeIn}
-use Rattle.graph_content.specs.Faults.{first, lettersFault, labelsFault, edgesFault, verticesFault, pathsFault}
+use Rattle.graph_content.specs.Faults.{lettersFault, labelsFault, edgesFault, verticesFault, pathsFault}
 use Rattle.graph_content.proofs.Encoded.{left-more, left-none}
 
 -- ---- one fault before another

@@ -2,8 +2,8 @@
 -- Assumes nothing.
 use Prim.Native.Nat.{ℕ, zero, suc, _+_, _-_, _*_, _≤_, _<_}
 use mathlib.Core.Path.{_≡_, refl, sym, ap, ap₂, _∙_}
-use mathlib.Core.List.{List, [], _∷_}
-use mathlib.Core.Bool.{Bool, true, false, _&&_, _||_, or-true, or-false, or-assoc}
+use mathlib.Core.List.{List}
+use mathlib.Core.Bool.{Bool, false, _&&_, _||_, or-true, or-false, or-assoc}
 use native.Mathlib.Omega.{arith}
 use native.Mathlib.Decide.{ℕ-discrete}
 use native.Mathlib.Numerals.{add-one, sub-one}
@@ -14,7 +14,7 @@ use borrow.Author.Tests.{eq-eqb, ne-eqb}
 use Rattle.wire.specs.Sizes.{pathRoom}
 use Rattle.graph.specs.Rules.{isOn, isOnAny, allOn}
 use Rattle.graph_paths.specs.Marks.{allMarked}
-use Rattle.graph_content.specs.Used.{numbersIn, pathsIn}
+use Rattle.graph.specs.Entries.{numbersIn, pathsIn}
 use Rattle.graph_content.specs.Flags.{marked, Flagged, Vertices, Inside}
 use Rattle.graph_content.proofs.Encoded.{left-more, left-none, length-numbers, numbers-at}
 

@@ -1,20 +1,18 @@
 -- Edges that rise: what is passed on the way to an edge, and where the edge would stand.
 -- Assumes nothing.
 use Prim.Native.Nat.{ℕ, zero, suc, _+_, _-_, _≤_, _<_}
-use mathlib.Core.Path.{_≡_, refl, sym, ap, _∙_}
+use mathlib.Core.Path.{_≡_, refl, sym, _∙_}
 use mathlib.Core.Logic.{_⊎_, inl, inr, ⊎-elim}
-use mathlib.Core.List.{List, [], _∷_}
-use mathlib.Core.Bool.{Bool, true, false, _&&_, _||_, and-false, or-false}
+use mathlib.Core.List.{List}
+use mathlib.Core.Bool.{Bool, true, false, _&&_, and-false}
 use native.Mathlib.Omega.{arith}
 use native.Mathlib.Decide.{ℕ-discrete, decLe}
-use lib.ListN.{getD}
-use lib.Dec.{ltb, eqb}
+use lib.Dec.{eqb}
 use borrow.Author.Tests.{lt-ltb, le-ltb, eq-eqb, ne-eqb}
 use Rattle.graph.specs.Content.{Edge}
 use Rattle.graph.specs.Rules.{edgeBelow, isEdge}
 use Rattle.graph.specs.Good.{EdgeBelow}
-use Rattle.graph.specs.Entries.{edgeIn}
-use Rattle.graph_content.specs.Used.{edgesIn}
+use Rattle.graph.specs.Entries.{edgeIn, edgesIn}
 use Rattle.graph_content.specs.Faults.{Rising}
 use Rattle.graph_content.specs.Search.{Passed, edgeIs}
 use Rattle.graph_content.proofs.Encoded.{left-more, left-none}

@@ -1,21 +1,27 @@
 -- What content without fault is: counts in range, labels within the letters, edges that rise, paths within their rooms.
 -- Assumes nothing.
-use Prim.Native.Nat.{ℕ, zero, suc, _+_, _-_, _*_, _≤_, _<_}
+use Prim.Native.Nat.{ℕ, zero, suc, _+_, _*_, _≤_, _<_}
 use mathlib.Core.Path.{_≡_, refl, sym, ap, _∙_, subst}
-use mathlib.Core.List.{List}
+use mathlib.Core.List.{List, []}
 use mathlib.Core.Bool.{Bool, true, false, _&&_}
 use native.Mathlib.Omega.{arith}
 use native.Mathlib.Decide.{ℕ-discrete}
-use lib.ListN.{getD}
+use lib.ListN.{length, getD}
+use Rattle.wire.specs.Found.{first, refusalNumber}
 use Rattle.wire.specs.Cases.{pick}
 use Rattle.wire.specs.Refusals.{noVertex, notRising}
 use Rattle.wire.specs.Sizes.{mostVertices, mostEdges, mostPaths, pathRoom}
-use Rattle.graph.specs.Content.{Edge}
-use Rattle.graph.specs.Rules.{isVertex, edgeBelow, noEdge, edgeFault, vertexFault, coverFault}
-use Rattle.graph.specs.Entries.{Given, edgeIn}
-use Rattle.graph_content.specs.Used.{edgesIn, pathsIn, Roomed}
-use Rattle.graph_content.specs.Faults.{first, labelsFault, edgesFault, verticesFault, pathsFault, contentFault, Rising}
+use Rattle.wire.proofs.Giving.{numberFault}
+use Rattle.graph.specs.Content.{Edge, Graph, vertexCount, edgeCount}
+use Rattle.graph.specs.Rules.{isVertex, edgeBelow, noEdge, vertexCountFault, lengthFault, edgeCountFault, edgeFault, vertexFault}
+use Rattle.graph.specs.Entries.{Given, edgeIn, labelsIn, graphIn, graphGiven}
+use Rattle.graph_content.specs.Used.{Roomed}
+use Rattle.graph_content.specs.Faults.{lettersFault, labelsFault, edgesFault, verticesFault, pathsFault, Rising}
 use Rattle.graph_content.specs.Flags.{Inside}
+use Rattle.graph.proofs.ContentReading.{ofLabels, ofEdges, ofFront, ofRest, ofGraph, given-number, given-good}
+use Rattle.graph.proofs.Givens.{length-numbers, length-labels, length-edges, length-paths, paths-each}
+use Rattle.graph.proofs.RoundTrips.{all-at, given-in}
+use Rattle.graph_content.proofs.Givens.{letters-of}
 use Rattle.graph_content.proofs.Faulting.{first-zero, within, vertex-parts, rise-good}
 
 -- ---- edges
@@ -101,20 +107,46 @@ pub record Sound (c : Given) : Type 0 where
   pub labels : labelsFault (c .n) 0 0 (c .buffers .letters) (c .buffers .lengths) ≡ 0
   pub roomed : Roomed (c .k) (c .buffers .counts)
 
-pub sound : (c : Given) → contentFault c ≡ 0 → Sound c
-unfolding contentFault
+-- labels that the reader would take have no fault
+labels-clear : (left i sum : ℕ) (letters lengths : List ℕ) → ofLabels sum (labelsIn left i sum letters lengths) ≡ 0
+    → labelsFault left i sum letters lengths ≡ 0
+unfolding ofLabels labelsIn labelsFault
+labels-clear zero i sum letters lengths z = refl
+labels-clear (suc left) i sum letters lengths z =
+    let len : ℕ = getD lengths i 0 in
+    let y = rw (length-numbers len sum letters, letters-of len sum letters) at z in
+    let a = first-zero (numberFault len) _ y in
+    let b = first-zero (lengthFault sum len) _ (a .1) in
+    let c = first-zero (lettersFault len letters sum) _ (b .1) in
+    simp (b .0, c .0, labels-clear left (i + 1) (sum + len) letters lengths (c .1))
+
+third : (a b c d : ℕ) → first a (first b (first c d)) ≡ 0 → c ≡ 0
+third a b c d z = first-zero c d (first-zero b (first c d) (first-zero a (first b (first c d)) z .1) .1) .0
+
+labels-taken : (g : Graph) → ofGraph g ≡ 0 → ofLabels 0 (g .labels) ≡ 0
+unfolding ofGraph ofFront
+labels-taken g z =
+    third (numberFault (vertexCount g)) (vertexCountFault (vertexCount g)) (ofLabels 0 (g .labels))
+    (first (numberFault (edgeCount g)) (first (edgeCountFault (edgeCount g)) (ofEdges (vertexCount g) noEdge (g .edges))))
+    (first-zero (ofFront g) (ofRest g) z .0)
+
+-- content that the reader would take is sound
+pub sound : (c : Given) → refusalNumber (graphGiven c) ≡ 0 → Sound c
 sound c z =
-    let a = first-zero _ _ z in
-    let b = first-zero (labelsFault (c .n) 0 0 (c .buffers .letters) (c .buffers .lengths)) _ (a .1) in
-    let d = first-zero _ _ (b .1) in
-    let e = first-zero (edgesFault (c .n) (c .m) 0 noEdge (c .buffers .edges)) _ (d .1) in
-    let f = first-zero _ _ (e .1) in
-    let g = first-zero (pathsFault (c .n) (edgesIn (c .m) 0 (c .buffers .edges)) (c .k) 0 (c .buffers .paths) (c .buffers .counts)) _ (f .1) in
-    let n = within 1 (c .n) (c .n) mostVertices (a .0) in
+    let b = c .buffers in
+    let h = given-in c (graphIn c) (given-good c z) .1 in
+    let k : length (graphIn c .paths) ≡ c .k = length-paths (c .k) 0 (b .paths) (b .counts) in
     record {
-      fewVertices = n .1;
-      fewEdges = within 0 (c .m) (c .m) mostEdges (d .0) .1;
-      fewPaths = within 1 (c .k) (c .k) mostPaths (f .0) .1;
-      labels = b .0;
-      roomed = paths-roomed (c .n) (edgesIn (c .m) 0 (c .buffers .edges)) (c .k) (c .buffers .paths) (c .buffers .counts) (n .1) (g .0);
+      fewVertices = omega (arith, h .fewVertices, length-labels (c .n) 0 0 (b .letters) (b .lengths));
+      fewEdges = omega (arith, h .fewEdges, length-edges (c .m) 0 (b .edges));
+      fewPaths = omega (arith, h .fewPaths);
+      labels = labels-clear (c .n) 0 0 (b .letters) (b .lengths) (labels-taken (graphIn c) (sym (given-number c) ∙ z));
+      roomed = λ i o.
+          let e : 0 + i ≡ i = omega arith in
+          let l = all-at (λ (p : List ℕ). (1 ≤ length p) × (length p ≤ vertexCount (graphIn c))) (graphIn c .paths) i [] (h .pathLengths) (omega arith) .1 in
+          let n : length (getD (graphIn c .paths) i []) ≡ getD (b .counts) i 0 =
+          ap length (paths-each (c .k) 0 (b .paths) (b .counts) i o)
+          ∙ length-numbers (getD (b .counts) (0 + i) 0) (pathRoom * (0 + i)) (b .paths)
+          ∙ ap (λ (j : ℕ). getD (b .counts) j 0) e in
+          omega (arith, h .fewVertices);
     }

@@ -1,19 +1,19 @@
 -- A path's vertices one after the other, with a place in the edges that goes on with them.
 -- Assumes nothing.
 use Prim.Native.Nat.{ℕ, _+_, _-_, _≤_, _<_}
-use mathlib.Core.Path.{_≡_, refl, sym, ap, ap₂, _∙_, subst}
+use mathlib.Core.Path.{_≡_, refl, sym, ap, ap₂, _∙_}
 use mathlib.Core.List.{List}
 use mathlib.Core.Bool.{Bool, true, false}
 use native.Mathlib.Omega.{arith}
 use lib.ListN.{getD}
+use Rattle.wire.specs.Found.{first}
 use Rattle.wire.specs.Cases.{pick}
 use Rattle.wire.specs.Refusals.{notEdge}
 use Rattle.graph.specs.Content.{Edge}
-use Rattle.graph.specs.Rules.{edgeBelow, isEdge, isStep, vertexFault}
+use Rattle.graph.specs.Rules.{edgeBelow, isEdge, vertexFault}
 use Rattle.graph_rules.specs.Rise.{riseFault}
-use Rattle.graph.specs.Entries.{edgeIn}
-use Rattle.graph_content.specs.Used.{edgesIn}
-use Rattle.graph_content.specs.Faults.{first, verticesFault, Rising}
+use Rattle.graph.specs.Entries.{edgeIn, edgesIn}
+use Rattle.graph_content.specs.Faults.{verticesFault, Rising}
 use Rattle.graph_content.specs.Search.{Passed, edgeIs}
 use Rattle.graph_content.proofs.Encoded.{left-all}
 use Rattle.graph_content.proofs.Faulting.{first-bad, first-none, vertices-step, vertices-over, vertex-parts, step-first, step-next, rise-good}

@@ -1,20 +1,14 @@
--- The first fault of content, as its number, 0 for none: what `graphGiven` finds, with the content forgotten.
+-- The first fault of each section of content, as its number, 0 for none: what the loops look for.
 use Prim.Native.Nat.{ℕ, zero, suc, _+_, _*_, _<_}
 use mathlib.Core.Path.{_≡_}
 use mathlib.Core.List.{List}
 use mathlib.Core.Bool.{true}
 use lib.ListN.{getD}
-use lib.Dec.{eqb}
-use Rattle.wire.specs.Cases.{pick}
+use Rattle.wire.specs.Found.{first}
 use Rattle.wire.specs.Sizes.{pathRoom}
 use Rattle.graph.specs.Content.{Edge}
-use Rattle.graph.specs.Rules.{vertexCountFault, lengthFault, letterFault, edgeCountFault, edgeBelow, noEdge, edgeFault, pathCountFault, pathLengthFault, vertexFault, coverFault}
-use Rattle.graph.specs.Entries.{Given, edgeIn}
-use Rattle.graph_content.specs.Used.{edgesIn, pathsIn}
-
--- the fault `a`, or where there is none (0) what comes after it
-abbrev pub first : ℕ → ℕ → ℕ
-first a b = pick (eqb a 0) b a
+use Rattle.graph.specs.Rules.{lengthFault, letterFault, edgeBelow, edgeFault, pathLengthFault, vertexFault}
+use Rattle.graph.specs.Entries.{edgeIn}
 
 -- of a label's letters, `left` of them, from a place on
 unfoldable pub lettersFault : ℕ → List ℕ → ℕ → ℕ
@@ -45,17 +39,6 @@ pathsFault n es zero i paths counts = 0
 pathsFault n es (suc left) i paths counts =
     first (pathLengthFault n (getD counts i 0))
     (first (verticesFault n es (getD counts i 0) (pathRoom * i) 0 paths) (pathsFault n es left (i + 1) paths counts))
-
--- of all the content, in the reader's order
-unfoldable pub contentFault : Given → ℕ
-contentFault c =
-    first (vertexCountFault (c .n))
-    (first (labelsFault (c .n) 0 0 (c .buffers .letters) (c .buffers .lengths))
-    (first (edgeCountFault (c .m))
-    (first (edgesFault (c .n) (c .m) 0 noEdge (c .buffers .edges))
-    (first (pathCountFault (c .k))
-    (first (pathsFault (c .n) (edgesIn (c .m) 0 (c .buffers .edges)) (c .k) 0 (c .buffers .paths) (c .buffers .counts))
-    (coverFault (c .n) (pathsIn (c .k) 0 (c .buffers .paths) (c .buffers .counts))))))))
 
 -- the edges, m of them, rise: each is below the next
 abbrev pub Rising : ℕ → List ℕ → Type 0

@@ -5,8 +5,7 @@ use mathlib.Core.List.{List}
 use mathlib.Core.Bool.{Bool, _&&_}
 use lib.Dec.{ltb, eqb}
 use Rattle.graph.specs.Rules.{isEdge}
-use Rattle.graph.specs.Entries.{edgeIn}
-use Rattle.graph_content.specs.Used.{edgesIn}
+use Rattle.graph.specs.Entries.{edgeIn, edgesIn}
 
 -- The edges from place `start` up to place r are passed on the way to the edge from - to: it, and each edge of a later step, is among the
 -- edges from `start` on exactly if it is among those from r on.

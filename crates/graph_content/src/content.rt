@@ -14,8 +14,7 @@ ghost use Prim.Native.Nat.{_+_, _-_, _*_, _≤_, _<_};
 ghost use lib.ListN.{length};
 ghost use Rattle.wire.specs.Sizes.{mostVertices, mostEdges, mostPaths, fullLetters, fullLengths, fullEdges, fullPaths, fullCounts};
 ghost use Rattle.graph.specs.Rules.{noEdge, edgeBelow};
-ghost use Rattle.graph.specs.Entries.{edgeIn};
-ghost use Rattle.graph_content.specs.Used.{edgesIn};
+ghost use Rattle.graph.specs.Entries.{edgeIn, edgesIn};
 ghost use Rattle.graph_content.specs.Faults.{lettersFault, labelsFault, edgesFault, verticesFault, pathsFault, Rising};
 ghost use Rattle.graph_content.specs.Search.{Passed, edgeIs};
 

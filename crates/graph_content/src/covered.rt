@@ -10,7 +10,8 @@ ghost use Prim.Native.Nat.{ℕ, _≤_};
 ghost use lib.ListN.{length};
 ghost use Rattle.wire.specs.Sizes.{mostVertices, mostPaths, fullPaths, fullCounts};
 ghost use Rattle.graph.specs.Rules.{isOn, isOnAny, coverFault};
-ghost use Rattle.graph_content.specs.Used.{pathsIn, Roomed};
+ghost use Rattle.graph.specs.Entries.{pathsIn};
+ghost use Rattle.graph_content.specs.Used.{Roomed};
 ghost use Rattle.graph_content.specs.Flags.{marked, Flagged, Vertices, Inside};
 
 // Marks a path's vertices.

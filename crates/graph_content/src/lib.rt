@@ -7,8 +7,9 @@ use wire::sizes::MOST_PATHS;
 use wire::sizes::MOST_VERTICES;
 ghost use mathlib.Core.Path.{_≡_};
 ghost use lib.ListN.{length};
+ghost use Rattle.wire.specs.Found.{refusalNumber};
+ghost use Rattle.graph.specs.Entries.{graphGiven};
 ghost use Rattle.graph_content.specs.Used.{givenOf, Full};
-ghost use Rattle.graph_content.specs.Faults.{contentFault};
 
 // A number as a place or a count.
 pub fn wide(x: u32) -> usize
@@ -29,8 +30,8 @@ pub fn content_fault(
     counts: &[u32],
 ) -> u32
     requires { ⌜ Full (length (now letters)) (length (now lengths)) (length (now edges)) (length (now paths)) (length (now counts)) ⌝ }
-    ensures { λ r. ⌜ r ≡ contentFault (givenOf n m k
-        (now (letters .entry)) (now (lengths .entry)) (now (edges .entry)) (now (paths .entry)) (now (counts .entry))) ⌝ }
+    ensures { λ r. ⌜ r ≡ refusalNumber (graphGiven (givenOf n m k
+        (now (letters .entry)) (now (lengths .entry)) (now (edges .entry)) (now (paths .entry)) (now (counts .entry)))) ⌝ }
 {
     let vertices = graph_rules::rules::range_fault(1, MOST_VERTICES, n);
     if vertices != 0 {

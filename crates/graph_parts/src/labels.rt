@@ -19,9 +19,9 @@ pub fn check_letters(file: &[u8], cursor: Cursor, len: u32) -> Number
         if file.len() <= at {
             return Number::Fault(BYTES_END, file.len());
         }
-        let number = rules::letter_fault(file[at]);
-        if number != 0 {
-            return Number::Fault(number, at);
+        let fault = rules::letter_fault(file[at]);
+        if fault != 0 {
+            return Number::Fault(fault, at);
         }
         at += 1;
         left -= 1;

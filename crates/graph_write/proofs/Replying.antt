@@ -1,27 +1,24 @@
 -- The reply for content and room, by what was found: one law for each way.
 -- Assumes nothing.
 use Prim.Native.Nat.{ℕ, _≤_, _<_}
-use mathlib.Core.Path.{_≡_, refl, sym, ap, _∙_}
+use mathlib.Core.Path.{_≡_, refl, _∙_}
 use mathlib.Core.List.{List}
-use mathlib.Core.Bool.{Bool, true, false, _&&_, and-false}
+use mathlib.Core.Bool.{Bool, true, false, _&&_}
 use native.Mathlib.Omega.{arith}
-use native.Mathlib.Decide.{decLe}
 use lib.ListN.{length}
-use lib.Dec.{leb, eqb}
-use borrow.Author.Tests.{eq-eqb, ne-eqb, le-leb, lt-leb, leb-true}
-use Rattle.wire.specs.Cases.{pick}
-use Rattle.wire.specs.Found.{Found, good, fault, Reply, accepted, refused, inFile, onAccepted}
+use lib.Dec.{leb}
+use borrow.Author.Tests.{le-leb, lt-leb, leb-true}
+use Rattle.wire.specs.Found.{accepted, refused, refusalNumber}
 use Rattle.wire.specs.Lent.{front}
 use Rattle.wire.specs.Refusals.{outOfRange, smallBuffer, shortOutput, graphFile}
-use Rattle.wire.specs.Sizes.{mostFileBytes, fullLetters, fullLengths, fullEdges, fullPaths, fullCounts}
+use Rattle.wire.specs.Sizes.{mostFileBytes, fullLetters, fullLengths, fullEdges, fullPaths}
 use Rattle.graph.specs.Content.{Graph}
 use Rattle.graph.specs.Encode.{encodeGraph}
-use Rattle.graph.specs.Entries.{Given, roomFor, roomy, graphGiven, sizeReply, writeReply, writeAfter}
+use Rattle.graph.specs.Entries.{Given, roomFor, roomy, graphGiven, sizeReply, writeReply, graphIn}
 use Rattle.graph_write.specs.declared.WrittenAnswer.{WrittenAnswer}
-use Rattle.graph_content.specs.Used.{Full, graphIn}
-use Rattle.graph_content.specs.Faults.{contentFault}
+use Rattle.graph_content.specs.Used.{Full}
 use Rattle.graph_write.specs.Answer.{refusedWith, Written}
-use Rattle.graph_content.proofs.Givens.{graph-given}
+use Rattle.graph.proofs.ContentReading.{given-good, given-fault}
 
 -- ---- the buffers
 
@@ -59,28 +56,27 @@ module _ (c : Given) (room : ℕ) where
   reply-small h = simp (roomy-sizes c ∙ h)
 
   module _ (h : sizes c ≡ true) where
-    pub reply-fault : (f : ℕ) → f ≡ contentFault c → (f ≡ 0 → ⊥) → writeReply c room ≡ refused f graphFile 0
+    pub reply-fault : (f : ℕ) → f ≡ refusalNumber (graphGiven c) → (f ≡ 0 → ⊥) → writeReply c room ≡ refused f graphFile 0
     unfolding writeReply
-    reply-fault f e n =
-        simp (roomy-sizes c ∙ h, graph-given c, ne-eqb (contentFault c) 0 (λ z. n (e ∙ z))) (ap (λ (k : ℕ). refused k graphFile 0) (sym e))
+    reply-fault f e n = simp (roomy-sizes c ∙ h, given-fault c f e n)
 
     -- content without fault goes on to the size
-    sized : contentFault c ≡ 0 → writeReply c room ≡ sizeReply room (graphIn c)
+    sized : refusalNumber (graphGiven c) ≡ 0 → writeReply c room ≡ sizeReply room (graphIn c)
     unfolding writeReply
-    sized z = simp (roomy-sizes c ∙ h, graph-given c, eq-eqb (contentFault c) 0 z)
+    sized z = simp (roomy-sizes c ∙ h, given-good c z)
 
-    pub reply-long : contentFault c ≡ 0 → mostFileBytes < length (encodeGraph (graphIn c))
+    pub reply-long : refusalNumber (graphGiven c) ≡ 0 → mostFileBytes < length (encodeGraph (graphIn c))
         → writeReply c room ≡ refused outOfRange graphFile mostFileBytes
     unfolding sizeReply
     reply-long z l = sized z ∙ simp (lt-leb (length (encodeGraph (graphIn c))) mostFileBytes l)
 
-    pub reply-short : contentFault c ≡ 0 → length (encodeGraph (graphIn c)) ≤ mostFileBytes → room < length (encodeGraph (graphIn c))
+    pub reply-short : refusalNumber (graphGiven c) ≡ 0 → length (encodeGraph (graphIn c)) ≤ mostFileBytes → room < length (encodeGraph (graphIn c))
         → writeReply c room ≡ refused shortOutput 0 0
     unfolding sizeReply
     reply-short z l s =
         sized z ∙ simp (le-leb (length (encodeGraph (graphIn c))) mostFileBytes l, lt-leb (length (encodeGraph (graphIn c))) room s)
 
-    pub reply-good : contentFault c ≡ 0 → length (encodeGraph (graphIn c)) ≤ mostFileBytes → length (encodeGraph (graphIn c)) ≤ room
+    pub reply-good : refusalNumber (graphGiven c) ≡ 0 → length (encodeGraph (graphIn c)) ≤ mostFileBytes → length (encodeGraph (graphIn c)) ≤ room
         → writeReply c room ≡ accepted (graphIn c)
     unfolding sizeReply
     reply-good z l s =

@@ -1,27 +1,33 @@
-// Cases of the listing, over the files of document 01's chapters "Listing" and "Checked by hand". After a case's name stands its listing, byte for
-// byte. The files' bytes are made by hand from document 01's words, and so is what must be written.
-use listing::list;
+// Cases of the listing, over the files of document 01's chapters "Listing" and "Checked by hand". After a case's name stands what is printed, byte
+// for byte. The files' bytes are made by hand from document 01's words, and so is what must be written.
 use listing::listing_room;
+use listing::loaded::Loaded;
+use listing::output;
+use listing::printed;
 
 // Writes text to standard output.
 fn say(text: &[u8]) {
     io::write_all(1, text);
 }
 
-// Writes the first n bytes.
-fn say_front(bytes: &[u8], n: usize) {
-    if n <= bytes.len() {
-        say(&bytes[..n]);
-    }
-}
-
-// A case: its name, and the listing of two files.
-fn case(name: &[u8], graph: &[u8], file: &[u8]) {
+// A case: its name, and what is printed of two files, each with what loading it gave.
+fn loaded_case(name: &[u8], g: Loaded, graph: &[u8], a: Loaded, anchors: &[u8]) {
     let mut out = listing_room();
-    let n = list(graph, file, &mut out);
+    let n = output(g, graph, a, anchors, &mut out);
     say(name);
     say(b"\n");
-    say_front(&out, n);
+    say(printed(&out, n));
+}
+
+// A case of two files that are there.
+fn case(name: &[u8], graph: &[u8], file: &[u8]) {
+    loaded_case(
+        name,
+        Loaded::Bytes(graph.len()),
+        graph,
+        Loaded::Bytes(file.len()),
+        file,
+    );
 }
 
 // Graph G1 with an anchor file.
@@ -87,8 +93,71 @@ fn long_case() {
     case(b"graph file too long", &long, b"");
 }
 
+// Missing files. What the room of such a file holds is not looked at.
+fn missing_cases() {
+    let good = b"\x01\x01\x01A\x00\x01\x01\x01";
+    let anchors = b"\x02\x01A\x00";
+    loaded_case(
+        b"both files missing",
+        Loaded::Missing,
+        good,
+        Loaded::Missing,
+        anchors,
+    );
+    loaded_case(
+        b"no graph file",
+        Loaded::Missing,
+        good,
+        Loaded::Bytes(4),
+        anchors,
+    );
+    loaded_case(
+        b"no anchor file",
+        Loaded::Bytes(8),
+        good,
+        Loaded::Missing,
+        anchors,
+    );
+    loaded_case(
+        b"no anchor file and a graph file at fault",
+        Loaded::Bytes(0),
+        good,
+        Loaded::Missing,
+        anchors,
+    );
+    loaded_case(
+        b"no graph file and an anchor file at fault",
+        Loaded::Missing,
+        good,
+        Loaded::Bytes(0),
+        anchors,
+    );
+}
+
+// Rooms longer than the files: the files' bytes are the first of them.
+fn room_cases() {
+    let graph = b"\x01\x01\x01A\x00\x01\x01\x01\x00";
+    let anchors = b"\x02\x01A\x00\x00";
+    loaded_case(
+        b"the front of each room",
+        Loaded::Bytes(8),
+        graph,
+        Loaded::Bytes(4),
+        anchors,
+    );
+    loaded_case(
+        b"the whole room of the anchors",
+        Loaded::Bytes(8),
+        graph,
+        Loaded::Bytes(5),
+        anchors,
+    );
+}
+
 fn main() {
     accepted_cases();
     refused_cases();
     long_case();
+    missing_cases();
+    room_cases();
 }

@@ -1,7 +1,3 @@
--- The laws of the listing, that its promise admits one answer, and the worked listing.
-pub mod Digits
-pub mod Each
-pub mod Ending
-pub mod Rooms
+-- That the promises of the listing admit one answer, and the worked listing.
 pub mod Showing
 pub mod WorkedListing

@@ -1,5 +1,5 @@
 -- From the promises of the sweep and of the reader of both files to the listing's; and that the listing's promise admits one answer. Assumes nothing.
-use Prim.Native.Nat.{ℕ, _+_, _-_, _*_, _≤_, _<_}
+use Prim.Native.Nat.{ℕ, _+_, _-_, _≤_, _<_}
 use mathlib.Core.Path.{_≡_, refl, sym, ap, _∙_, subst}
 use mathlib.Core.List.{List, [], _∷_, _++_, append-assoc}
 use mathlib.Core.Bool.{true}
@@ -25,13 +25,13 @@ use Rattle.anchors_read.specs.declared.AnchorsAnswer.{AnchorsAnswer}
 use Rattle.chain.specs.Steps.{anchorAt}
 use Rattle.chain.specs.Named.{Back, stop, go, Returned, empty, some}
 use Rattle.chain.specs.ChainEntries.{Result, IsSweep, ChainBuffers, roomyChain, chainReply, filledChain}
-use Rattle.placing_over.specs.declared.over.Engine.the-variants.{Sweep}
 use Rattle.placing.specs.Answer as entries
 use Rattle.placing.specs.declared.ChainAnswer.{ChainAnswer}
 use Rattle.placing.proofs.Reading.{laid-anchor}
-use Rattle.placing.proofs.Answering.{by-one}
-use Rattle.listing.specs.Lines.{foundLine, refusedLine, anchorLine, anchorLines, listingOf, Printed, Outcome, Listed, lineIn, Numbered, linesIn}
-use Rattle.listing.proofs.Each.{each-same}
+use Rattle.placing.proofs.Answering.{sweep-one}
+use Rattle.listing_text.specs.Lines.{foundLine, refusedLine, anchorLine, Printed, lineIn, Numbered, linesIn}
+use Rattle.listing.specs.Printing.{anchorLines, listingOf, Outcome, Listed, File, missing, read, Output}
+use Rattle.listing_text.proofs.Each.{each-same}
 
 -- ---- the chain returned
 
@@ -189,18 +189,24 @@ module _ (graph file : List ℕ) (b after : ChainBuffers) (r : ChainAnswer) (T :
 
 -- ---- one answer
 
-module _ (graph file old x y : List ℕ) (r q : ℕ) where
+module _ (old x y : List ℕ) (r q : ℕ) where
   same-printed : (s t : List ℕ) → s ≡ t → Printed s old x r → Printed t old y q → (r ≡ q) × (x ≡ y)
   same-printed s t e h k = (h .count ∙ ap length e ∙ sym (k .count), h .bytes ∙ ap (λ (u : List ℕ). front u old) e ∙ sym (k .bytes))
 
   same-outcome : (z : Reply Both) → Outcome z old x r → Outcome z old y q → (r ≡ q) × (x ≡ y)
   same-outcome (accepted p) h k =
       same-printed _ _
-      (ap (listingOf (p .anchors .set .anchors)) (by-one Sweep (p .graph .graph) (p .anchors .set .anchors) (h .result) (k .result) (h .is) (k .is)))
+      (ap (listingOf (p .anchors .set .anchors)) (sweep-one (p .graph .graph) (p .anchors .set .anchors) (h .result) (k .result) (h .is) (k .is)))
       (h .printed)
       (k .printed)
   same-outcome (refused k f place) h l = same-printed _ _ refl h l
 
-  -- ONE LISTING: the promise admits one count and one output
-  pub one-listing : Listed graph file old x r → Listed graph file old y q → (r ≡ q) × (x ≡ y)
-  one-listing h k = same-outcome (bothReply graph file) (h .outcome) (k .outcome)
+  -- ONE LISTING: the promise over two files' bytes admits one count and one output
+  pub one-listing : (graph file : List ℕ) → Listed graph file old x r → Listed graph file old y q → (r ≡ q) × (x ≡ y)
+  one-listing graph file h k = same-outcome (bothReply graph file) (h .outcome) (k .outcome)
+
+  -- ONE OUTPUT: and so does the promise over files that may be missing
+  pub one-output : (graph anchors : File) → Output graph anchors old x r → Output graph anchors old y q → (r ≡ q) × (x ≡ y)
+  one-output missing anchors h k = same-printed _ _ refl h k
+  one-output (read graph) missing h k = same-printed _ _ refl h k
+  one-output (read graph) (read anchors) h k = one-listing graph anchors h k

@@ -1,3 +1,3 @@
 -- The definitions of the listing.
-pub mod Decimal
-pub mod Lines
+pub mod Printing
+pub mod Files

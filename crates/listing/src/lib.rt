@@ -1,15 +1,22 @@
-// The listing of two files' bytes, laid into a lent output.
-mod text; // text.rt: numbers, words and lines
+// What the listing program prints, laid into a lent output: the listing of two files' bytes, a refusal, or that a file is not there.
+pub mod loaded; // loaded.rt: what loading a file gave
 
 use anchors_read::read_anchors;
-use placing::sweep;
+use listing_text::put_listing;
+use listing_text::put_no_file;
+use listing_text::put_refused;
+use loaded::Loaded;
+use loaded::head;
+use sweep_placing::sweep;
 ghost use mathlib.Core.Path.{_≡_};
 ghost use mathlib.Core.List.{_++_};
 ghost use Prim.Native.Nat.{_≤_};
-ghost use lib.ListN.{length};
+ghost use lib.ListN.{length, take};
 ghost use Rattle.wire.specs.Lent.{front};
 ghost use Rattle.wire.specs.Sizes.{fullLetters, fullAnchors, fullScores, fullChain};
-ghost use Rattle.listing.specs.Lines.{foundLine, refusedLine, linesIn, Numbered, Listed, lineRoom, listingRoom};
+ghost use Rattle.listing_text.specs.Lines.{foundLine, refusedLine, noFileLine, linesIn, Numbered, Printed, lineRoom, listingRoom};
+ghost use Rattle.listing.specs.Printing.{Listed, Output};
+ghost use Rattle.listing.specs.Files.{fileIn};
 
 // Buffers of full size: letters, anchors, and scores or a chain.
 fn letters_room() -> [u8; 32768]
@@ -37,51 +44,8 @@ pub fn listing_room() -> [u8; 163920]
     [0; 163920]
 }
 
-// The first line: N, the greatest score and the rounds.
-fn put_found(out: &mut [u8], anchors: u32, score: u32, rounds: u32) -> usize
-    requires { ⌜ lineRoom ≤ length (now out) ⌝ }
-    ensures { λ r. ⌜ (r ≡ length (foundLine anchors score rounds)) × (now (out .exit) ≡ front (foundLine anchors score rounds) (now (out .entry))) ⌝ }
-{
-    text::put_told(
-        out,
-        b"anchors ",
-        anchors,
-        b" score ",
-        score,
-        b" rounds ",
-        rounds,
-    )
-}
-
-// The line of a refusal.
-fn put_refused(out: &mut [u8], number: u32, file: u32, place: u32) -> usize
-    requires { ⌜ lineRoom ≤ length (now out) ⌝ }
-    ensures { λ r. ⌜ (r ≡ length (refusedLine number file place)) × (now (out .exit) ≡ front (refusedLine number file place) (now (out .entry))) ⌝ }
-{
-    text::put_told(out, b"refused ", number, b" file ", file, b" place ", place)
-}
-
-// The first line, and the lines of the chain's anchors.
-fn put_listing(
-    out: &mut [u8],
-    count: u32,
-    score: u32,
-    rounds: u32,
-    numbers: &[u32],
-    scores: &[u32],
-    chain: &[u32],
-) -> usize
-    requires { ⌜ (listingRoom ≤ length (now out)) × (length (now chain) ≤ fullChain) × Numbered (now numbers) (now scores) (now chain) ⌝ }
-    ensures { λ r. ⌜ (r ≡ length (foundLine count score rounds ++ linesIn (now (numbers .entry)) (now (scores .entry)) (now (chain .entry))))
-        × (now (out .exit) ≡ front (foundLine count score rounds ++ linesIn (now (numbers .entry)) (now (scores .entry)) (now (chain .entry))) (now (out .entry))) ⌝ }
-{
-    let mut at = put_found(out, count, score, rounds);
-    at += text::put_lines(&mut out[at..], numbers, scores, chain);
-    at
-}
-
 // Lays the listing of two files' bytes, or the refusal, at the front of out, and says how many bytes that took.
-pub fn list(graph: &[u8], file: &[u8], out: &mut [u8]) -> usize
+fn list(graph: &[u8], file: &[u8], out: &mut [u8]) -> usize
     requires { ⌜ listingRoom ≤ length (now out) ⌝ }
     ensures { λ r. ⌜ Listed (now (graph .entry)) (now (file .entry)) (now (out .entry)) (now (out .exit)) r ⌝ }
 {
@@ -104,4 +68,25 @@ pub fn list(graph: &[u8], file: &[u8], out: &mut [u8]) -> usize
         &scores,
         &chain[..count],
     )
+}
+
+// Lays what is printed of two files at the front of out, and says how many bytes that took. Each file's bytes are the first of its room. A file
+// that is not there comes before either is checked, the graph file first.
+pub fn output(g: Loaded, graph: &[u8], a: Loaded, anchors: &[u8], out: &mut [u8; 163920]) -> usize
+    ensures { λ r. ⌜ Output (fileIn g (now (graph .entry))) (fileIn a (now (anchors .entry))) (now (out .entry)) (now (out .exit)) r ⌝ }
+{
+    let Loaded::Bytes(n) = g else {
+        return put_no_file(out, 1);
+    };
+    let Loaded::Bytes(m) = a else {
+        return put_no_file(out, 2);
+    };
+    list(head(graph, n), head(anchors, m), out)
+}
+
+// The first n bytes of an output, or all of it.
+pub fn printed(out: &[u8; 163920], n: usize) -> &[u8]
+    ensures { λ r. ⌜ now r ≡ take n (now (out .entry)) ⌝ }
+{
+    head(out, n)
 }

@@ -11,8 +11,7 @@ use lib.ListN.{getD}
 use Rattle.rounds.specs.Rounds.{Within}
 use Rattle.rounds.specs.Table.{entry}
 use Rattle.rounds.proofs.Upto.{within}
-use Rattle.pair_step.specs.Pairs.{Ends, jumpIn, stepIn}
-use Rattle.pair_step.proofs.PairLaws.{jump-fits, step-late, step-none, step-some}
+use Rattle.pair_step.specs.Pairs.{Ends, stepIn}
 use Rattle.chain.specs.Named.{Top}
 use Rattle.named_chain.specs.Returning.{Lowest, GivesIn}
 
@@ -93,16 +92,3 @@ module _ (ends : Ends) (scores row : List ℕ) (score v x c weight : ℕ) where
 
   pub gives-in : (i : ℕ) → GivesAt i → GivesIn ends scores row score v x c weight (i + 1)
   gives-in i h = let e : i ≡ i + 1 - 1 = omega arith in subst GivesAt e h
-
--- a step is small
-pub step-small : (row : List ℕ) (u y d v x c : ℕ) → 1 ≤ x → (getD row (u - 1) 0 ≡ 0) ⊎ (y < getD row (u - 1) 0) → getD row (u - 1) 0 ≤ 131072
-    → stepIn row u y d v x c ≤ c + 131072 + x
-step-small row u y d v x c some above small = go (decLt d c) (ℕ-discrete (jumpIn row u y v x) 0)
-  where
-    f : (jumpIn row u y v x ≤ 131072) × (jumpIn row u y v x ≢ 0 → y + 1 ≤ jumpIn row u y v x + x)
-    f = jump-fits row u y v x some above small
-
-    go : Dec (d < c) → Dec (jumpIn row u y v x ≡ 0) → stepIn row u y d v x c ≤ c + 131072 + x
-    go (no h) q = omega (arith, step-late row u y d v x c (omega arith))
-    go (yes h) (yes e) = omega (arith, step-none row u y d v x c h e)
-    go (yes h) (no n) = omega (arith, step-some row u y d v x c h n, f .0)

@@ -23,9 +23,9 @@ use Rattle.chain.specs.Steps.{anchorAt}
 use Rattle.chain.specs.Named.{Gives, Back, stop, go, Top, empty, some}
 use Rattle.chain.proofs.NamedLaws.{given}
 use Rattle.steps.specs.Setting.{Setting, anchorOf, stepOf, Holds}
-use Rattle.steps.specs.Scores.{ScoresLow, Scored}
+use Rattle.steps.specs.Scores.{Scored}
 use Rattle.named_chain.specs.Returning.{Lowest, Origin, CameFrom, WayBack, ChainLaid}
-use Rattle.steps.proofs.HeldLaws.{held-within, within-held, held-number, held-order, step-told, best-low}
+use Rattle.steps.proofs.HeldLaws.{held-within, within-held, held-number, held-order, step-told}
 use Rattle.steps.proofs.SettingLaws.{held-step}
 
 -- ---- what gives a score
@@ -52,10 +52,6 @@ module _ {s : Setting} {g : Graph} {a : AnchorSet} (H : Holds s g a) (S : List �
       (omega arith, omega (arith, p .exact, weigh j wj))
 
 -- ---- where to go back to
-
--- the best scores are low
-pub scored-low : {s : Setting} {S : List ℕ} → Scored s S → ScoresLow s S
-scored-low z = record { size = z .size; low = λ j w. best-low (z .holds) j _ (z .best j w) }
 
 module _ {s : Setting} {S : List ℕ} (z : Scored s S) (j : ℕ) (w : Within (s .count) j) where
   pub origin-none : entry j S ≡ anchorOf s j .weight → CameFrom s S j 0

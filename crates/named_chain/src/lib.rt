@@ -1,16 +1,17 @@
 // The chain that is returned: from the lowest-numbered anchor of greatest score back along the anchors that give the scores.
 use anchors::PER_ANCHOR;
+use pair_step::step::gives;
 use pair_step::step::step;
 use steps::row::make_row;
 use wire::lent::zero_rest_u32;
 use wire::sizes::FULL_CHAIN;
 ghost use mathlib.Core.Path.{_≡_};
-ghost use Prim.Native.Nat.{_+_, _-_, _*_, _≤_, _<_};
+ghost use Prim.Native.Nat.{_+_, _-_, _≤_, _<_};
 ghost use lib.ListN.{length, drop};
-ghost use Rattle.wire.specs.Sizes.{mostRead, mostWeight, fullChain};
+ghost use Rattle.wire.specs.Sizes.{mostRead, fullChain};
 ghost use Rattle.wire.specs.Lent.{front};
 ghost use Rattle.rounds.specs.Rounds.{Within};
-ghost use Rattle.pair_step.specs.Pairs.{RowFits, EndsFit, ScoresFit};
+ghost use Rattle.pair_step.specs.Pairs.{RowFits, EndsFit};
 ghost use Rattle.steps.specs.Setting.{settingOf};
 ghost use Rattle.steps.specs.Scores.{Scored};
 ghost use Rattle.chain.specs.Named.{Top};
@@ -54,15 +55,14 @@ pub fn giver(
 ) -> usize
     requires { ⌜ EndsFit n (record { us = now us; ys = now ys; ds = now ds }) ⌝ }
     requires { ⌜ RowFits n (record { us = now us; ys = now ys; ds = now ds }) (now row) ⌝ }
-    requires { ⌜ ScoresFit n (now scores) ⌝ }
-    requires { ⌜ (x ≤ mostRead) × (c ≤ mostRead) × (1 ≤ x) × (weight ≤ mostWeight) × (score ≤ mostWeight * mostRead) ⌝ }
+    requires { ⌜ (n ≤ length (now scores)) × (x ≤ mostRead) × (c ≤ mostRead) × (1 ≤ x) ⌝ }
     ensures { λ r. ⌜ Lowest (GivesIn (record { us = now (us .entry); ys = now (ys .entry); ds = now (ds .entry) }) (now (scores .entry)) (now (row .entry)) score v x c weight) n r ⌝ }
 {
     let mut i: usize = 0;
     while i < n {
         let s = step(row, us[i], ys[i], ds[i], v, x, c);
         if 0 < s {
-            if scores[i] + weight == score + (s - 1) {
+            if gives(scores[i], weight, s - 1, score) {
                 return i + 1;
             }
         }

@@ -57,6 +57,26 @@ sub-below best x g h = go (ltb x g) refl h
     go true q e = let l = ltb-true x g q in omega arith
     go false q e = ltb-false best (x - g) e
 
+negative : ℤ → ℕ
+negative (pos a) = 0
+negative (negsuc a) = 1
+
+-- a candidate is a natural exactly where the sum is that natural and the gaps
+pub sub-exact : (x g t : ℕ) → subℕ x g ≡ pos t → x ≡ t + g
+unfolding negative
+sub-exact x g t h = go (ltb x g) refl h
+  where
+    go : (b : Bool) → ltb x g ≡ b → cond b (negsuc (g - suc x)) (pos (x - g)) ≡ pos t → x ≡ t + g
+    go true q e = absurd (let z : _≡_ {A = ℕ} 1 0 = ap negative e in omega arith)
+    go false q e = let z : x - g ≡ t = ap mag e in let l = ltb-false x g q in omega arith
+
+pub exact-sub : (x g t : ℕ) → x ≡ t + g → subℕ x g ≡ pos t
+exact-sub x g t h = go (ltb x g) refl
+  where
+    go : (b : Bool) → ltb x g ≡ b → cond b (negsuc (g - suc x)) (pos (x - g)) ≡ pos t
+    go true q = absurd (let l = ltb-true x g q in omega arith)
+    go false q = ap pos (omega arith)
+
 -- what a signed local holds, read back
 pub back : (w : Width) {z : ℤ} → mag z < 2 ^ hbits w → toZ w (ofZ w z) ≡ z
 back w h = toZ-ofZ (record { sfits = h })

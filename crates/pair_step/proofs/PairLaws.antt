@@ -1,16 +1,16 @@
 -- The step between two anchors, by its cases, and the bounds that keep its sums within their types.
 -- Assumes nothing.
 use Prim.Native.Nat.{ℕ, _+_, _-_, _≤_, _<_, max}
-use mathlib.Core.Path.{_≡_, ap, _∙_}
+use mathlib.Core.Path.{_≡_, refl, sym, _∙_, subst}
 use mathlib.Core.Logic.{_≢_, _⊎_, inl, inr}
 use mathlib.Core.Bool.{and-false}
 use mathlib.Core.List.{List}
 use native.Mathlib.Omega.{arith}
-use native.Mathlib.Decide.{ℕ-discrete, decLe, decLt}
+use native.Mathlib.Decide.{ℕ-discrete, decLt}
+use native.Mathlib.Nat.{le-refl}
 use lib.ListN.{getD}
 use borrow.Author.Tests.{lt-ltb, le-ltb, le-leb, lt-leb, eq-eqb, ne-eqb}
-use Rattle.rounds.proofs.Gather.{gather-none, gather-skip, gather-take}
-use Rattle.pair_step.specs.Pairs.{Ends, jumpIn, stepIn, stepFrom, bestIn}
+use Rattle.pair_step.specs.Pairs.{readGapIn, graphGapIn, jumpIn, stepIn, Greatest}
 
 module _ (row : List ℕ) (u y v x : ℕ) where
   pub jump-ahead : u ≡ v → y < x → jumpIn row u y v x ≡ 1
@@ -25,19 +25,19 @@ module _ (row : List ℕ) (u y v x : ℕ) where
   unfolding jumpIn
   jump-round h = simp (le-ltb y x h, and-false)
 
-  -- a jump is past the first anchor's last letter, and small
+  -- a jump is past the first anchor's last letter, so that the graph gap is not below zero, and small
   pub jump-fits : 1 ≤ x → (getD row (u - 1) 0 ≡ 0) ⊎ (y < getD row (u - 1) 0) → getD row (u - 1) 0 ≤ 131072
-      → (jumpIn row u y v x ≤ 131072) × (jumpIn row u y v x ≢ 0 → y + 1 ≤ jumpIn row u y v x + x)
+      → (jumpIn row u y v x ≤ 131072) × (jumpIn row u y v x ≢ 0 → y + 1 < jumpIn row u y v x + x)
   jump-fits some a s = on (ℕ-discrete u v) (decLt y x)
     where
-      far : jumpIn row u y v x ≡ getD row (u - 1) 0 → (jumpIn row u y v x ≤ 131072) × (jumpIn row u y v x ≢ 0 → y + 1 ≤ jumpIn row u y v x + x)
+      far : jumpIn row u y v x ≡ getD row (u - 1) 0 → (jumpIn row u y v x ≤ 131072) × (jumpIn row u y v x ≢ 0 → y + 1 < jumpIn row u y v x + x)
       far e = (omega arith, λ n. past a n)
         where
-          past : (getD row (u - 1) 0 ≡ 0) ⊎ (y < getD row (u - 1) 0) → jumpIn row u y v x ≢ 0 → y + 1 ≤ jumpIn row u y v x + x
+          past : (getD row (u - 1) 0 ≡ 0) ⊎ (y < getD row (u - 1) 0) → jumpIn row u y v x ≢ 0 → y + 1 < jumpIn row u y v x + x
           past (inl z) n = absurd (n (e ∙ z))
           past (inr h) n = omega arith
 
-      on : Dec (u ≡ v) → Dec (y < x) → (jumpIn row u y v x ≤ 131072) × (jumpIn row u y v x ≢ 0 → y + 1 ≤ jumpIn row u y v x + x)
+      on : Dec (u ≡ v) → Dec (y < x) → (jumpIn row u y v x ≤ 131072) × (jumpIn row u y v x ≢ 0 → y + 1 < jumpIn row u y v x + x)
       on (yes e) (yes h) = let j = jump-ahead e h in (omega arith, λ n. omega arith)
       on (yes e) (no n) = far (jump-round (omega arith))
       on (no n) q = far (jump-apart n)
@@ -51,32 +51,38 @@ module _ (row : List ℕ) (u y d v x c : ℕ) where
   unfolding stepIn
   step-none h e = simp (lt-leb c d h, eq-eqb (jumpIn row u y v x) 0 e)
 
-  pub step-some : d < c → jumpIn row u y v x ≢ 0 → stepIn row u y d v x c ≡ c - d - 1 + (jumpIn row u y v x + x - 1 - y)
+  pub step-some : d < c → jumpIn row u y v x ≢ 0 → stepIn row u y d v x c ≡ readGapIn d c + graphGapIn (jumpIn row u y v x - 1) x y + 1
   unfolding stepIn
   step-some h n = simp (lt-leb c d h, ne-eqb (jumpIn row u y v x) 0 n)
 
--- ---- the best of the candidates, in a loop's own numbers
+-- ---- the greatest of candidates, one after the other
 
-module _ (ends : Ends) (scores row : List ℕ) (own v x c weight : ℕ) where
-  -- the step from the anchor at place i of the lists
-  abbrev pub stepPlaced : ℕ → ℕ
-  stepPlaced i = stepIn row (getD (ends .us) i 0) (getD (ends .ys) i 0) (getD (ends .ds) i 0) v x c
+module _ {own weight : ℕ} {step score : ℕ → ℕ} {P : ℕ → Type 0} where
+  pub greatest-none : ((i : ℕ) → P i → ⊥) → Greatest own weight step score P own
+  greatest-none n = record { heavy = le-refl own; each = λ i p l. absurd (n i p); which = inl refl }
 
-  placed : (i : ℕ) → stepFrom ends row v x c (i + 1) ≡ stepPlaced i
-  placed i = let e : i + 1 - 1 ≡ i = omega arith in rw e
+  -- Q has one anchor more than P: what is at least the greatest so far and its candidate, and is one of them
+  pub greatest-more : {Q : ℕ → Type 0} {r t j : ℕ} → Greatest own weight step score P r → ((i : ℕ) → P i → Q i) → Q j → ((i : ℕ) → Q i → P i ⊎ (i ≡ j))
+      → r ≤ t → (1 ≤ step j → score j + weight ≤ t + (step j - 1)) → (t ≡ r) ⊎ ((1 ≤ step j) × (score j + weight ≡ t + (step j - 1)))
+      → Greatest own weight step score Q t
+  greatest-more {Q} {r} {t} {j} b more here only l above one = record { heavy = omega (arith, b .heavy); each = λ i q h. each i (only i q) h; which = which one }
+    where
+      each : (i : ℕ) → P i ⊎ (i ≡ j) → 1 ≤ step i → score i + weight ≤ t + (step i - 1)
+      each i (inl p) h = omega (arith, b .each i p h)
+      each i (inr q) h = subst (λ (k : ℕ). 1 ≤ step k → score k + weight ≤ t + (step k - 1)) (sym q) above h
 
-  pub best-none : bestIn ends scores row own v x c weight 0 ≡ own
-  best-none = gather-none max (λ i. decLe 1 (stepFrom ends row v x c i)) (λ i. getD scores (i - 1) 0 + weight - (stepFrom ends row v x c i - 1)) own
+      kept : t ≡ r → (r ≡ own) ⊎ ((i : ℕ) × P i × (1 ≤ step i) × (score i + weight ≡ r + (step i - 1))) → (t ≡ own) ⊎ ((i : ℕ) × Q i × (1 ≤ step i) × (score i + weight ≡ t + (step i - 1)))
+      kept e (inl q) = inl (e ∙ q)
+      kept e (inr (i, p, h, q)) = inr (i, more i p, h, omega arith)
 
-  pub best-skip : (i : ℕ) → stepPlaced i ≡ 0 → bestIn ends scores row own v x c weight (i + 1) ≡ bestIn ends scores row own v x c weight i
-  best-skip i h =
-      gather-skip max (λ i. decLe 1 (stepFrom ends row v x c i)) (λ i. getD scores (i - 1) 0 + weight - (stepFrom ends row v x c i - 1)) own i
-      (λ k. omega (arith, placed i))
+      which : (t ≡ r) ⊎ ((1 ≤ step j) × (score j + weight ≡ t + (step j - 1))) → (t ≡ own) ⊎ ((i : ℕ) × Q i × (1 ≤ step i) × (score i + weight ≡ t + (step i - 1)))
+      which (inl e) = kept e (b .which)
+      which (inr (h, q)) = inr (j, here, h, q)
 
-  pub best-take : (i : ℕ) → 1 ≤ stepPlaced i
-      → bestIn ends scores row own v x c weight (i + 1) ≡ max (bestIn ends scores row own v x c weight i) (getD scores i 0 + weight - (stepPlaced i - 1))
-  best-take i h =
-      let e : i + 1 - 1 ≡ i = omega arith in
-      gather-take max (λ i. decLe 1 (stepFrom ends row v x c i)) (λ i. getD scores (i - 1) 0 + weight - (stepFrom ends row v x c i - 1)) own i
-      (omega (arith, placed i))
-      ∙ ap (λ (j : ℕ). max (bestIn ends scores row own v x c weight i) (getD scores j 0 + weight - (stepPlaced j - 1))) e
+-- the greater of a score and a candidate is one of them
+pub raised-one : (r x g : ℕ) → (max r (x - g) ≡ r) ⊎ (x ≡ max r (x - g) + g)
+raised-one r x g = on (decLt r (x - g))
+  where
+    on : Dec (r < x - g) → (max r (x - g) ≡ r) ⊎ (x ≡ max r (x - g) + g)
+    on (yes l) = inr (omega arith)
+    on (no n) = inl (omega arith)

@@ -1,2 +1,2 @@
-// The step between two anchors with its candidate, and the best of a vertex's anchors that an anchor may follow.
-pub mod step; // step.rt: the step between two anchors, its candidate
+// The step between two anchors with its gaps and its candidate.
+pub mod step; // step.rt: the step between two anchors, its gaps, its candidate

@@ -1,11 +1,12 @@
-// The step between two anchors, and its candidate. A step is 0 where the first does not come before the second, and the gap sum plus 1 where it does.
+// The step between two anchors, its gaps, and its candidate. A step is 0 where the first does not come before the second, and the gap sum plus 1 where it does.
 ghost use mathlib.Core.Path.{_≡_};
 ghost use Prim.Native.Nat.{_+_, _-_, _^_, _≤_, _<_, max};
-ghost use mathlib.Core.Logic.{_⊎_};
+ghost use mathlib.Core.Logic.{_⊎_, _≢_};
 ghost use lib.IntN.{subℕ, pos};
 ghost use lib.ListN.{length, getD};
-ghost use Rattle.wire.specs.Sizes.{mostRead, mostWeight};
-ghost use Rattle.pair_step.specs.Pairs.{jumpIn, stepIn, bestIn, RowFits, EndsFit, ScoresFit};
+ghost use Rattle.wire.specs.Sizes.{mostRead};
+ghost use Rattle.rounds.specs.Loop.{Told};
+ghost use Rattle.pair_step.specs.Pairs.{readGapIn, graphGapIn, jumpIn, stepIn};
 
 // A number as a signed one.
 fn signed(x: u32) -> i64
@@ -32,6 +33,29 @@ pub fn raised(best: u32, score: u32, weight: u32, gaps: u32) -> u32
     } else {
         best
     }
+}
+
+// Whether a step gives this score: its candidate is the score exactly.
+pub fn gives(score: u32, weight: u32, gaps: u32, given: u32) -> bool
+    ensures { λ r. ⌜ Told r (score + weight ≡ given + gaps) (score + weight ≢ given + gaps) ⌝ }
+{
+    candidate(score, weight, gaps) == signed(given)
+}
+
+// "Read gap = B.c − A.d − 1."
+pub fn read_gap(d: u32, c: u32) -> u32
+    requires { ⌜ d < c ⌝ }
+    ensures { λ r. ⌜ r ≡ readGapIn d c ⌝ }
+{
+    c - d - 1
+}
+
+// "Graph gap = s + B.x − 1 − A.y"
+pub fn graph_gap(s: u32, x: u32, y: u32) -> u32
+    requires { ⌜ (1 ≤ x) × (y < s + x) × (s + x < 2 ^ 32) ⌝ }
+    ensures { λ r. ⌜ r ≡ graphGapIn s x y ⌝ }
+{
+    s + x - 1 - y
 }
 
 // The distance that the graph gap counts, plus 1, from letter y of vertex u to letter x of vertex v; 0 where no walk goes there.
@@ -61,37 +85,5 @@ pub fn step(row: &[u32], u: u32, y: u32, d: u32, v: u32, x: u32, c: u32) -> u32
     if far == 0 {
         return 0;
     }
-    (c - d - 1) + (far + x - 1 - y)
-}
-
-// The greatest of a score and of all candidates of anchors 1 to n, for an anchor at (v, x, c) of this weight.
-pub fn best_of(
-    n: usize,
-    us: &[u32],
-    ys: &[u32],
-    ds: &[u32],
-    scores: &[u32],
-    row: &[u32],
-    own: u32,
-    v: u32,
-    x: u32,
-    c: u32,
-    weight: u32,
-) -> u32
-    requires { ⌜ EndsFit n (record { us = now us; ys = now ys; ds = now ds }) ⌝ }
-    requires { ⌜ RowFits n (record { us = now us; ys = now ys; ds = now ds }) (now row) ⌝ }
-    requires { ⌜ ScoresFit n (now scores) ⌝ }
-    requires { ⌜ (x ≤ mostRead) × (c ≤ mostRead) × (1 ≤ x) × (weight ≤ mostWeight) ⌝ }
-    ensures { λ r. ⌜ r ≡ bestIn (record { us = now (us .entry); ys = now (ys .entry); ds = now (ds .entry) }) (now (scores .entry)) (now (row .entry)) own v x c weight n ⌝ }
-{
-    let mut best = own;
-    let mut i: usize = 0;
-    while i < n {
-        let s = step(row, us[i], ys[i], ds[i], v, x, c);
-        if 0 < s {
-            best = raised(best, scores[i], weight, s - 1);
-        }
-        i += 1;
-    }
-    best
+    read_gap(d, c) + graph_gap(far - 1, x, y) + 1
 }

@@ -2,19 +2,22 @@
 use Prim.Native.Nat.{ℕ, zero, suc, _+_, _-_, _*_, _≤_, _<_}
 use mathlib.Core.Path.{_≡_, refl, sym, ap, _∙_, subst}
 use mathlib.Core.Logic.{_⊎_, inl, inr, ⊎-elim}
-use mathlib.Core.List.{List, [], _∷_}
-use mathlib.Core.Bool.{true}
+use mathlib.Core.List.{List, [], _∷_, _++_}
+use mathlib.Core.Bool.{true, false}
 use native.Mathlib.Omega.{arith}
-use lib.ListN.{length, getD}
-use borrow.Author.Tests.{le-leb}
+use lib.ListN.{length, getD, take, drop}
+use lib.Dec.{leb}
+use borrow.Author.Tests.{leb-true, le-leb}
 use Rattle.wire.specs.Found.{Reply, good, accepted, refused}
 use Rattle.wire.specs.Lent.{laid}
-use Rattle.wire.specs.Sizes.{mostAnchors, fullLetters, fullAnchors}
+use Rattle.wire.specs.Refusals.{smallBuffer}
+use Rattle.wire.specs.Sizes.{tableRow, mostAnchors, fullLetters, fullAnchors, fullScores, fullChain}
 use Rattle.wire.proofs.NumberLaws.{Bytes}
 use Rattle.wire.proofs.Laying.{laid-at, length-laid}
 use Rattle.rounds.specs.Rounds.{Within}
 use Rattle.rounds.proofs.Upto.{within}
-use Rattle.graph.specs.Content.{Graph}
+use Rattle.graph.specs.Content.{Graph, pathCount}
+use Rattle.graph.proofs.Kept.{both}
 use Rattle.graph.specs.Reading.{Parsed, graphOf}
 use Rattle.graph.specs.Entries.{Buffers, roomy, readReply}
 use Rattle.graph_read.specs.Answer as reader
@@ -31,7 +34,11 @@ use Rattle.anchors_read.specs.Answer.{answerOf, Answered}
 use Rattle.anchors_read.specs.declared.AnchorsAnswer.{AnchorsAnswer}
 use Rattle.chain.specs.Steps.{anchorAt}
 use Rattle.tables.proofs.Accepted.{full-roomy, accepted-holds, accepted-paths}
-use Rattle.placing_over.specs.Lying.{AnchorsLie, Given}
+use Rattle.chain.specs.ChainEntries.{ChainBuffers, roomyChain, chainReply}
+use Rattle.table_rounds.specs.Held.{Holds}
+use Rattle.placing_over.specs.Lying.{AnchorsLie, TablesLie}
+use Rattle.placing_over.proofs.Results.{part-taken}
+use Rattle.placing.specs.Begun.{Taken, Begun}
 
 -- ---- the anchors as they lie
 
@@ -76,6 +83,13 @@ module _ (l : List Anchor) (old : List ℕ) (few : length l ≤ mostAnchors) whe
 
 -- ---- the reader of both files
 
+-- each lent buffer has full size
+full-chain : (b : ChainBuffers) → roomyChain b ≡ true → (fullScores ≤ length (b .scores)) × (fullChain ≤ length (b .chain))
+unfolding roomyChain
+full-chain b h =
+    let one = both (leb fullScores (length (b .scores))) _ h in
+    (leb-true fullScores (length (b .scores)) (one .0), leb-true fullChain (length (b .chain)) (one .1))
+
 -- buffers of full size are roomy
 pub full-anchors : (b : AnchorBuffers) → fullLetters ≤ length (b .letters) → fullAnchors ≤ length (b .anchors) → roomyAnchors b ≡ true
 unfolding roomyAnchors
@@ -116,6 +130,49 @@ module _ (graph file : List ℕ) (b after : AnchorBuffers) (r : AnchorsAnswer) (
   pub both-some : (r .number ≡ 0 → ⊥) → bothReply graph file ≡ refused (r .number) (r .file) (r .place)
   both-some n = ⊎-elim (λ t. absurd (n (ap (λ (q : AnchorsAnswer). q .number) (t .answer)))) (λ t. t .1) (by-reply (bothReply graph file) refl)
 
+-- ---- a call's beginning
+
+module _ (graph file : List ℕ) (b : ChainBuffers) where
+  -- a buffer below full size
+  pub small-begun : (numbers : List ℕ) → roomyChain b ≡ false → Begun graph file b numbers (answerOf (refused smallBuffer 0 0))
+  unfolding chainReply
+  small-begun numbers h = record { takes = λ z. absurd (omega (arith, z)); refuses = λ _. rw h }
+
+  -- what the reader of both files answers, where each buffer has full size
+  module _ (roomy : roomyChain b ≡ true) (l after : AnchorBuffers) (r : AnchorsAnswer) (full : fullLetters ≤ length (l .letters)) (room : fullAnchors ≤ length (l .anchors)) (A : Answered graph file l after r) where
+    replied : (x : Reply Both) → bothReply graph file ≡ x → chainReply graph file b ≡ x
+    unfolding chainReply
+    replied x e = rw roomy e
+
+    lies : (B : BothAccepted graph file l after r) → AnchorsLie (B .taken .graph .graph) (B .taken .anchors .set) (r .anchors) (after .anchors)
+    unfolding filledAnchors
+    lies B =
+        let p = B .taken in
+        let G = both-good graph file p (both-taken graph file p (B .found)) .1 in
+        let n : length (p .anchors .set .anchors) ≡ r .anchors = sym (ap (λ (k : AnchorsAnswer). k .anchors) (B .answer)) in
+        let e : after .anchors ≡ laid fullAnchors (anchorNumbers (p .anchors .set .anchors)) (l .anchors) = ap (λ (k : AnchorBuffers). k .anchors) (B .content) in
+        record {
+          good = G;
+          anchorsAre = n;
+          room = rw (e, ← n) (laid-long (p .anchors .set .anchors) (l .anchors) (G .fewAnchors) room);
+          each = λ j w. rw e (laid-anchor (p .anchors .set .anchors) (l .anchors) (G .fewAnchors) j (within (w .low) (omega (arith, w .high, n))));
+        }
+
+    took : BothAccepted graph file l after r → Taken graph file b (after .anchors) r
+    took B = record {
+      both = B .taken;
+      reply = replied _ (B .found);
+      graphIs = both-taken graph file (B .taken) (B .found) .graphIs;
+      rooms = full-chain b roomy;
+      letters = sym (ap (λ (k : AnchorsAnswer). k .letters) (B .answer));
+      anchors = lies B;
+    }
+
+    pub read-begun : Begun graph file b (after .anchors) r
+    read-begun =
+        let f = full-anchors l full room in
+        record { takes = λ z. took (both-zero graph file l after r f A z); refuses = λ n. replied _ (both-some graph file l after r f A n) }
+
 -- ---- the reader of the graph file
 
 unfoldable graph-accepts : (graph : List ℕ) (l after : Buffers) (r : GraphAnswer) (p : Parsed) → graphOf graph ≡ good p → roomy l ≡ true → reader.Answered graph l after r
@@ -125,28 +182,20 @@ graph-accepts graph l after r p e h A =
     let reply : readReply graph l ≡ accepted p = rw (h, e) in
     record { parsed = p; found = e; full = h; content = A .buffers ∙ rw reply; answer = A .answer ∙ rw reply }
 
--- accepted files lie in the buffers, by the numbers of the readers' answers
-module _ (graph file : List ℕ) (b c : AnchorBuffers) (r : AnchorsAnswer) (B : BothAccepted graph file b c r) (room : fullAnchors ≤ length (b .anchors))
-    (l after : Buffers) (q : GraphAnswer) (bytes : Bytes graph) (full : Full l) (A : reader.Answered graph l after q) where
-  pub given-read : Given (B .taken .graph .graph) (B .taken .anchors .set) (q .vertices) (q .edges) (q .paths) (r .letters) (r .anchors)
-      (after .lengths) (after .edges) (after .paths) (after .counts) (c .anchors)
-  unfolding filledAnchors graph-accepts
-  given-read =
-      let p = B .taken in
-      let t = both-taken graph file p (B .found) in
-      let G = both-good graph file p t in
-      let K = graph-accepts graph l after q (p .graph) (t .graphIs) (full-roomy l full) A in
-      let n : length (p .anchors .set .anchors) ≡ r .anchors = sym (ap (λ (k : AnchorsAnswer). k .anchors) (B .answer)) in
-      let few = G .1 .fewAnchors in
-      let e : c .anchors ≡ laid fullAnchors (anchorNumbers (p .anchors .set .anchors)) (b .anchors) = ap (λ (k : AnchorBuffers). k .anchors) (B .content) in
-      record {
-        content = accepted-holds graph l after q bytes full K;
-        pathsAre = sym (accepted-paths graph l after q K);
-        anchors = record {
-          good = G .1;
-          letters = sym (ap (λ (k : AnchorsAnswer). k .letters) (B .answer));
-          anchorsAre = n;
-          room = rw (e, ← n) (laid-long (p .anchors .set .anchors) (b .anchors) few room);
-          each = λ j w. rw e (laid-anchor (p .anchors .set .anchors) (b .anchors) few j (within (w .low) (omega (arith, w .high, n))));
-        };
-      }
+-- an accepted graph's content lies in the buffers, by the numbers of the reader's answer
+module _ (graph : List ℕ) (l after : Buffers) (r : GraphAnswer) (bytes : Bytes graph) (full : Full l) (A : reader.Answered graph l after r) (p : Parsed) (e : graphOf graph ≡ good p) where
+  pub graph-held : Holds (p .graph) (r .vertices) (r .edges) (after .lengths) (after .edges) (after .paths) (after .counts)
+  unfolding graph-accepts
+  graph-held = accepted-holds graph l after r bytes full (graph-accepts graph l after r p e (full-roomy l full) A)
+
+  pub graph-paths : pathCount (p .graph) ≡ r .paths
+  unfolding graph-accepts
+  graph-paths = sym (accepted-paths graph l after r (graph-accepts graph l after r p e (full-roomy l full) A))
+
+-- tables that were made in the front parts of buffers are there
+pub tables-front : {g : Graph} {n k : ℕ} {lengths paths : List ℕ} (x y z oldX oldY oldZ : List ℕ) → length z ≡ n → TablesLie g n k lengths paths x y z
+    → TablesLie g n k lengths paths (take (tableRow * n) (x ++ drop (tableRow * n) oldX)) (take (tableRow * n) (y ++ drop (tableRow * n) oldY)) (take n (z ++ drop n oldZ))
+tables-front {g} {n} {k} {lengths} {paths} x y z oldX oldY oldZ l L =
+    let lx : length x ≡ tableRow * n = L .reachIs .size ∙ ap (λ (v : ℕ). tableRow * v) (L .vertices) in
+    let ly : length y ≡ tableRow * n = L .distanceIs .size ∙ ap (λ (v : ℕ). tableRow * v) (L .vertices) in
+    rw (part-taken (tableRow * n) x oldX lx, part-taken (tableRow * n) y oldY ly, part-taken n z oldZ l) L

@@ -1,2 +1,3 @@
--- What the chaining entries promise.
+-- What the chaining entries promise, and what they have on their way.
 pub mod Answer
+pub mod Begun

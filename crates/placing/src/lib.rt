@@ -1,31 +1,28 @@
-// The chaining entries: the sweep, and the plain pass that audits it, on the bytes of a graph file and an anchor file.
+// What the chaining entries share: the two files are read and the tables made, whichever engine follows, and the answer is given. No engine
+// stands below this crate.
 
+use anchors_read::AnchorsAnswer;
 use anchors_read::read_anchors;
+use graph_read::GraphAnswer;
 use graph_read::read_graph;
-use placing_over::over::Engine;
 use placing_over::over::Placement;
-use placing_over::over::place_over;
-use tables_make::make::cell_zeros;
-use tables_make::make::letter_zeros;
 use tables_make::make::make_tables;
 use tables_make::make::number_zeros;
 use tables_make::make::path_zeros;
-use tables_make::make::vertex_zeros;
 use wire::refusals::SMALL_BUFFER;
 use wire::sizes::FULL_CHAIN;
 use wire::sizes::FULL_SCORES;
 use wire::sizes::ROW;
 ghost use mathlib.Core.Path.{_≡_};
-ghost use Prim.Native.Nat.{_*_, _≤_};
+ghost use Prim.Native.Nat.{_≤_};
 ghost use lib.ListN.{length};
-ghost use Rattle.wire.specs.Sizes.{tableRow, fullScores, fullChain};
-ghost use Rattle.graph.specs.Content.{Graph};
-ghost use Rattle.anchors.specs.Anchors.{AnchorSet};
-ghost use Rattle.chain.specs.ChainEntries.{IsSweep, IsPlain, roomForChain};
+ghost use Rattle.wire.specs.Sizes.{fullLetters, fullLengths, fullPaths, fullTable, fullClosed, fullAnchors};
+ghost use Rattle.graph.specs.Reading.{Parsed, graphOf};
+ghost use Rattle.wire.specs.Found.{good};
+ghost use Rattle.chain.specs.ChainEntries.{roomForChain};
 ghost use Rattle.tables_make.specs.Made.{zeros};
-ghost use Rattle.placing_over.specs.Lying.{Given, SomeGiven};
-ghost use Rattle.placing.specs.Answer.{refusalOf, Answered};
-ghost use Rattle.placing_over.specs.Engines.{IsBy, Laid};
+ghost use Rattle.placing.specs.Answer.{refusalOf, placedOf};
+ghost use Rattle.placing.specs.Begun.{Begun, SomeGraph, Ready};
 
 // Number, file and place; then the anchors of the file, the greatest score, the rounds and the chain's length.
 pub struct ChainAnswer {
@@ -39,103 +36,14 @@ pub struct ChainAnswer {
 }
 
 // A room of zeros for the numbers of anchors.
-fn anchor_number_zeros() -> [u32; 10240]
+pub fn anchor_number_zeros() -> [u32; 10240]
     ensures { λ r. ⌜ r ≡ zeros 10240 ⌝ }
 {
     [0u32; 10240]
 }
 
-// Makes the tables, of which exactly the used places are lent, and places the anchors.
-fn place_tabled(
-    engine: Engine,
-    n: usize,
-    m: usize,
-    k: usize,
-    r: usize,
-    count: usize,
-    lengths: &[u32],
-    edges: &[u32],
-    paths: &[u32],
-    counts: &[u32],
-    numbers: &[u32],
-    reach: &mut [u32],
-    distance: &mut [u32],
-    closed: &mut [u32],
-    scores: &mut [u32],
-    chain: &mut [u32],
-) -> Placement
-    requires { ⌜ SomeGiven n m k r count (now lengths) (now edges) (now paths) (now counts) (now numbers) ⌝ }
-    requires { ⌜ (length (now reach) ≡ tableRow * n) × (length (now distance) ≡ tableRow * n) × (length (now closed) ≡ n) ⌝ }
-    requires { ⌜ (fullScores ≤ length (now scores)) × (fullChain ≤ length (now chain)) ⌝ }
-    ensures { λ t. ⌜ ((g : Graph) → (a : AnchorSet) → Given g a n m k r count (now (lengths .entry)) (now (edges .entry)) (now (paths .entry)) (now (counts .entry)) (now (numbers .entry))
-        → Laid (IsBy engine) g (a .anchors) (record { scores = now (scores .entry); chain = now (chain .entry) })
-        (record { scores = now (scores .exit); chain = now (chain .exit) }) t) ⌝ }
-{
-    make_tables(n, m, lengths, edges, paths, counts, reach, distance, closed);
-    place_over(
-        engine,
-        n,
-        k,
-        r,
-        count,
-        lengths,
-        paths,
-        reach,
-        distance,
-        closed,
-        numbers,
-        scores,
-        chain,
-    )
-}
-
-// Places the anchors of content that lies in buffers: n vertices, m edges, k paths, a read of r letters, `count` anchors.
-fn place_given(
-    engine: Engine,
-    n: usize,
-    m: usize,
-    k: usize,
-    r: usize,
-    count: usize,
-    lengths: &[u32],
-    edges: &[u32],
-    paths: &[u32],
-    counts: &[u32],
-    numbers: &[u32],
-    scores: &mut [u32],
-    chain: &mut [u32],
-) -> Placement
-    requires { ⌜ SomeGiven n m k r count (now lengths) (now edges) (now paths) (now counts) (now numbers) ⌝ }
-    requires { ⌜ (fullScores ≤ length (now scores)) × (fullChain ≤ length (now chain)) ⌝ }
-    ensures { λ t. ⌜ ((g : Graph) → (a : AnchorSet) → Given g a n m k r count (now (lengths .entry)) (now (edges .entry)) (now (paths .entry)) (now (counts .entry)) (now (numbers .entry))
-        → Laid (IsBy engine) g (a .anchors) (record { scores = now (scores .entry); chain = now (chain .entry) })
-        (record { scores = now (scores .exit); chain = now (chain .exit) }) t) ⌝ }
-{
-    let mut reach = cell_zeros();
-    let mut distance = cell_zeros();
-    let mut closed = vertex_zeros();
-    place_tabled(
-        engine,
-        n,
-        m,
-        k,
-        r,
-        count,
-        lengths,
-        edges,
-        paths,
-        counts,
-        numbers,
-        &mut reach[..ROW * n],
-        &mut distance[..ROW * n],
-        &mut closed[..n],
-        scores,
-        chain,
-    )
-}
-
 // A refusal: its other numbers are 0.
-fn refusal(number: u32, file: u32, place: u32) -> ChainAnswer
+pub fn refusal(number: u32, file: u32, place: u32) -> ChainAnswer
     ensures { λ r. ⌜ r ≡ refusalOf number file place ⌝ }
 {
     ChainAnswer {
@@ -149,6 +57,21 @@ fn refusal(number: u32, file: u32, place: u32) -> ChainAnswer
     }
 }
 
+// An acceptance: 0 0 0, N, and what the placement has.
+pub fn acceptance(anchors: u32, t: Placement) -> ChainAnswer
+    ensures { λ r. ⌜ r ≡ placedOf anchors t ⌝ }
+{
+    ChainAnswer {
+        number: 0,
+        file: 0,
+        place: 0,
+        anchors: anchors,
+        score: t.score,
+        rounds: t.rounds,
+        length: t.length,
+    }
+}
+
 // Whether each buffer has full size, by its length.
 fn roomy(scores: usize, chain: usize) -> bool
     ensures { λ r. ⌜ r ≡ roomForChain scores chain ⌝ }
@@ -159,82 +82,61 @@ fn roomy(scores: usize, chain: usize) -> bool
     FULL_CHAIN <= chain
 }
 
-// Reads both files, where both are accepted and each buffer has full size, and places the anchors by an engine; a refusal writes nothing.
-fn place(
-    engine: Engine,
+// Begins a call on both files: 13, then the refusals of the two files; else the anchors' numbers are read. `letters` is room to work in.
+pub fn begin(
     graph: &[u8],
     file: &[u8],
-    scores: &mut [u32],
-    chain: &mut [u32],
-) -> ChainAnswer
-    ensures { λ r. ⌜ Answered (IsBy engine) (now (graph .entry)) (now (file .entry))
-        (record { scores = now (scores .entry); chain = now (chain .entry) })
-        (record { scores = now (scores .exit); chain = now (chain .exit) })
-        r ⌝ }
+    scores: &[u32],
+    chain: &[u32],
+    letters: &mut [u8],
+    numbers: &mut [u32],
+) -> AnchorsAnswer
+    requires { ⌜ (fullLetters ≤ length (now letters)) × (fullAnchors ≤ length (now numbers)) ⌝ }
+    ensures { λ r. ⌜ Begun (now (graph .entry)) (now (file .entry)) (record { scores = now (scores .entry); chain = now (chain .entry) }) (now (numbers .exit)) r ⌝ }
 {
     if !roomy(scores.len(), chain.len()) {
-        return refusal(SMALL_BUFFER, 0, 0);
+        return AnchorsAnswer {
+            number: SMALL_BUFFER,
+            file: 0,
+            place: 0,
+            letters: 0,
+            anchors: 0,
+        };
     }
-    let mut letters = letter_zeros();
-    let mut numbers = anchor_number_zeros();
-    let a = read_anchors(graph, file, &mut letters, &mut numbers);
-    if a.number != 0 {
-        return refusal(a.number, a.file, a.place);
-    }
-    let mut lengths = vertex_zeros();
+    read_anchors(graph, file, letters, numbers)
+}
+
+// Reads an accepted graph file and makes its tables, at the front of their buffers. `letters` is room to work in.
+pub fn make_ready(
+    graph: &[u8],
+    letters: &mut [u8],
+    lengths: &mut [u32],
+    paths: &mut [u32],
+    reach: &mut [u32],
+    distance: &mut [u32],
+    closed: &mut [u32],
+) -> GraphAnswer
+    requires { ⌜ SomeGraph (now graph) ⌝ }
+    requires { ⌜ (fullLetters ≤ length (now letters)) × (fullLengths ≤ length (now lengths)) × (fullPaths ≤ length (now paths)) ⌝ }
+    requires { ⌜ (fullTable ≤ length (now reach)) × (fullTable ≤ length (now distance)) × (fullClosed ≤ length (now closed)) ⌝ }
+    ensures { λ r. ⌜ ((p : Parsed) → graphOf (now (graph .entry)) ≡ good p
+        → Ready (p .graph) (now (lengths .exit)) (now (paths .exit)) (now (reach .exit)) (now (distance .exit)) (now (closed .exit)) r) ⌝ }
+{
     let mut edges = number_zeros();
-    let mut paths = cell_zeros();
     let mut counts = path_zeros();
-    let g = read_graph(
-        graph,
-        &mut letters,
-        &mut lengths,
-        &mut edges,
-        &mut paths,
-        &mut counts,
-    );
-    let t = place_given(
-        engine,
-        g.vertices as usize,
+    let g = read_graph(graph, letters, lengths, &mut edges, paths, &mut counts);
+    let n = g.vertices as usize;
+    let cells = ROW * n;
+    make_tables(
+        n,
         g.edges as usize,
-        g.paths as usize,
-        a.letters as usize,
-        a.anchors as usize,
-        &lengths,
+        lengths,
         &edges,
-        &paths,
+        paths,
         &counts,
-        &numbers,
-        scores,
-        chain,
+        &mut reach[..cells],
+        &mut distance[..cells],
+        &mut closed[..n],
     );
-    ChainAnswer {
-        number: 0,
-        file: 0,
-        place: 0,
-        anchors: a.anchors,
-        score: t.score,
-        rounds: t.rounds,
-        length: t.length,
-    }
-}
-
-// The sweep: the scores of the anchors and the chain that is returned, with the rounds made.
-pub fn sweep(graph: &[u8], file: &[u8], scores: &mut [u32], chain: &mut [u32]) -> ChainAnswer
-    ensures { λ r. ⌜ Answered IsSweep (now (graph .entry)) (now (file .entry))
-        (record { scores = now (scores .entry); chain = now (chain .entry) })
-        (record { scores = now (scores .exit); chain = now (chain .exit) })
-        r ⌝ }
-{
-    place(Engine::Sweep, graph, file, scores, chain)
-}
-
-// The plain pass: the same scores and chain, with no rounds.
-pub fn plain(graph: &[u8], file: &[u8], scores: &mut [u32], chain: &mut [u32]) -> ChainAnswer
-    ensures { λ r. ⌜ Answered IsPlain (now (graph .entry)) (now (file .entry))
-        (record { scores = now (scores .entry); chain = now (chain .entry) })
-        (record { scores = now (scores .exit); chain = now (chain .exit) })
-        r ⌝ }
-{
-    place(Engine::Plain, graph, file, scores, chain)
+    g
 }

@@ -1,3 +1,3 @@
--- The laws that the work on one anchor file cites: Settings of what lies in the buffers, Results of what the engines leave there.
+-- The laws that the work of any engine on one anchor file cites: Settings of what lies in the buffers, Results of what is laid there.
 pub mod Settings
 pub mod Results

@@ -1,3 +1,3 @@
--- What lies in the buffers when one anchor file is placed over a graph, and what the engines leave there.
+-- What lies in the buffers when one anchor file is placed over a graph, and what is laid into them.
 pub mod Lying
-pub mod Engines
+pub mod Laying

@@ -1,2 +1,2 @@
 -- The definitions of the plain pass.
-pub mod Planning
+pub mod Looking

@@ -1,6 +1,6 @@
 -- The count of rounds of any state: its two wordings agree, it and the result are unique, a run computes them. Assumes nothing.
 use mathlib.Core.Path.{_≡_, refl, sym, ap, _∙_, subst}
-use mathlib.Core.Logic.{_≢_, ite, if-pos, if-neg}
+use mathlib.Core.Logic.{_≢_, ite}
 use mathlib.Core.HLevel.{Discrete}
 use mathlib.Core.List.{List, [], _∷_, nil≢cons, cons≢nil, head-eq-of-cons-eq, tail-eq-of-cons-eq}
 use Prim.Native.Nat.{ℕ, zero, suc, _-_, _≤_, _<_}
@@ -103,16 +103,7 @@ module _ {S : Type 0} (round : S → S) where
     run zero s = (zero, s)
     run (suc f) s = ite (same (round s) s) (1, s) (let w = run f (round s) in (suc (w .0), w .1))
 
-    -- with fuel enough, a run gives them
-    pub run-rounds : {s t : S} {k : ℕ} (f : ℕ) → Rounds round s k t → k ≤ f → run f s ≡ (k, t)
-    unfolding run
-    run-rounds zero (quiet e) l = absurd (not-suc-le-zero l)
-    run-rounds zero (busy h r) l = absurd (not-suc-le-zero l)
-    run-rounds (suc f) (quiet {s = s} e) l = if-pos (same (round s) s) e _ _
-    run-rounds (suc f) (busy {s = s} {t = t} {k = k} h r) l =
-        if-neg (same (round s) s) h _ _ ∙ ap {B = ℕ × S} (λ w. (suc (w .0), w .1)) (run-rounds f r (le-of-suc-le-suc l))
-
-    -- and a run with fuel left over shows them
+    -- a run with fuel left over shows them
     pub run-shows : (f : ℕ) (s : S) → run f s .0 < f → Rounds round s (run f s .0) (run f s .1)
     unfolding run
     run-shows zero s l = absurd (not-suc-le-zero l)
@@ -139,6 +130,10 @@ settles-ends w = record { count = w .count; last = w .last; rounds = w .rounds; 
 pub settles-map : {S : Type 0} {n : ℕ} {round : S → S} {D E : S → Type 0} {s : S} → ((t : S) → D t → E t) → Settles n round D s → Settles n round E s
 unfolding settles-ends
 settles-map f w = settles (settles-ends w) (f (w .last) (w .done))
+
+-- what is made of the rounds by one rule holds of those by another, where they are the same
+pub settles-as : {S : Type 0} {n : ℕ} {round round′ : S → S} {Done : S → Type 0} {s : S} → ((k : ℕ) (t : S) → Rounds round s k t → Rounds round′ s k t) → Settles n round Done s → Settles n round′ Done s
+settles-as f w = settles (record { count = w .count; last = w .last; rounds = f (w .count) (w .last) (w .rounds); bound = w .bound }) (w .done)
 
 -- whatever count and result the rule gives: the count is one of 1 to n, the result is Done
 pub settled : {S : Type 0} {n : ℕ} {round : S → S} {Done : S → Type 0} {s : S} → Settles n round Done s → {k : ℕ} {t : S} → Rounds round s k t → (1 ≤ k) × (k ≤ n) × Done t

@@ -1,4 +1,4 @@
--- What is gathered is at least as good as each value that was looked at, and is one of them; and nothing else is both. Assumes nothing.
+-- What is gathered is at least as good as each value that was looked at, and is one of them. Assumes nothing.
 use mathlib.Core.Path.{_≡_, refl, ap}
 use mathlib.Core.Logic.{_⊎_, inl, inr, ite, if-pos, if-neg}
 use Prim.Native.Nat.{ℕ, zero, suc, _+_}
@@ -33,6 +33,14 @@ gather-ext {X} join test f g a b (suc k) p h = go (test (suc k)) (gather-ext joi
     go : (d : Dec (X (suc k))) → gather join test f a k ≡ gather join test g b k → ite d (join (gather join test f a k) (f (suc k))) (gather join test f a k) ≡ ite d (join (gather join test g b k) (g (suc k))) (gather join test g b k)
     go (yes x) ih = rw (ih, h (suc k) (within-last k) x)
     go (no _) ih = ih
+
+-- of zeros 0 is gathered, where the better of two zeros is 0
+pub gather-zero : {X : ℕ → Type 0} (join : ℕ → ℕ → ℕ) (test : (e : ℕ) → Dec (X e)) (candidate : ℕ → ℕ) {first : ℕ} (k : ℕ) → join 0 0 ≡ 0 → first ≡ 0 → ((e : ℕ) → Within k e → candidate e ≡ 0) → gather join test candidate first k ≡ 0
+unfolding gather
+gather-zero join test candidate zero j z h = z
+gather-zero join test candidate (suc k) j z h =
+    let ih = gather-zero join test candidate k j z (λ e w. h e (within-suc w)) in
+    ite-cases (λ x. x ≡ 0) (test (suc k)) (λ _. rw (ih, h (suc k) (within-last k)) j) (λ _. ih)
 
 -- ---- the best
 
@@ -71,26 +79,7 @@ module _ {X : ℕ → Type 0} {good : ℕ → ℕ → Type 0} {join : ℕ → �
       go ih x (inr q) = inr (suc k, within-last k, x, q)
       go ih x (inl q) = rw q (up ih)
 
-  -- so whatever is both is what is gathered, in whatever order a loop looked at them
-  pub gather-is : (k x : ℕ) → OneOf k x → good first x → ((e : ℕ) → Within k e → X e → good (candidate e) x) → x ≡ gather join test candidate first k
-  gather-is k x one a each = O .antisym (below one) (above (gather-one k))
-    where
-      below : OneOf k x → good x (gather join test candidate first k)
-      below (inl q) = rw q (gather-first k)
-      below (inr (e, w, h, q)) = rw q (gather-each k e w h)
-
-      above : {r : ℕ} → OneOf k r → good r x
-      above (inl q) = rw q a
-      above (inr (e, w, h, q)) = rw q (each e w h)
-
 -- what an entry takes depends on its own value and on those of the sources of the links into it
 pub value-ext : (r : Rule) (f g : ℕ → ℕ) (v : ℕ) → f v ≡ g v → ((e : ℕ) → Within (r .links .m) e → f (r .links .source e) ≡ g (r .links .source e)) → value r f v ≡ value r g v
 unfolding value
 value-ext r f g v p h = gather-ext (r .join) (r .links .into? v) _ _ _ _ (r .links .m) p (λ e w _. ap (r .carry v e) (h e w))
-
--- so an x that is the entry's own value or brought by a link into it, and is at least as good as all of these, is what it takes
-pub value-is : (r : Rule) {good : ℕ → ℕ → Type 0} (O : Order good (r .join)) (has : ℕ → ℕ) (v x : ℕ)
-    → (x ≡ has v) ⊎ ((e : ℕ) × Within (r .links .m) e × r .links .Into v e × (x ≡ r .carry v e (has (r .links .source e))))
-    → good (has v) x → ((e : ℕ) → Within (r .links .m) e → r .links .Into v e → good (r .carry v e (has (r .links .source e))) x) → x ≡ value r has v
-unfolding value
-value-is r O has v x one own each = gather-is O (r .links .into? v) (λ e. r .carry v e (has (r .links .source e))) (has v) (r .links .m) x one own each

@@ -1,14 +1,14 @@
 -- THE THEOREM OF THE ROUNDS for a table in a list: `table-settles`; for one of up to sixteen columns, `sixteen-settles`; for a vector, `vector-settles`.
 -- Assumes nothing.
-use mathlib.Core.Path.{_≡_, refl, sym, ap, _∙_}
+use mathlib.Core.Path.{_≡_, refl, sym, ap, _∙_, subst}
 use mathlib.Core.Logic.{_≢_, _⊎_, inl, inr}
 use mathlib.Core.List.{List, List-discrete}
-use Prim.Native.Nat.{ℕ, zero, suc, _+_, _*_, _≤_, _<_}
+use Prim.Native.Nat.{ℕ, zero, suc, _+_, _-_, _*_, _≤_, _<_}
 use native.Mathlib.Nat.{le-refl, add-zero, add-suc}
 use native.Mathlib.Decide.{ℕ-discrete}
 use native.Mathlib.Omega.{arith}
 use lib.ListN.{length, getD, set, length-set}
-use lib.Seq.{getD-set-same, getD-set-other, ext-getD}
+use lib.Seq.{getD-set-same, getD-set-other, set-getD, ext-getD}
 use Rattle.rounds.specs.Rounds.{Within, sweep, Rounds}
 use Rattle.rounds.specs.Rule.{Rule, value}
 use Rattle.rounds.specs.Place.{Places, cellPlace, entryPlace}
@@ -18,7 +18,7 @@ use Rattle.rounds.specs.Loop.{Settles}
 use Rattle.rounds.proofs.Upto.{within, within-last, within-suc, within-none, within-cases, all-or-not}
 use Rattle.rounds.proofs.Counts.{settles-map, rounds-mirror}
 use Rattle.rounds.proofs.InPlace.{Local, Keeps, sweep-keeps, round-keeps}
-use Rattle.rounds.proofs.Gather.{value-ext, gather-first, gather-each, gather-one}
+use Rattle.rounds.proofs.Gather.{value-ext, gather-zero, gather-first, gather-each, gather-one}
 use Rattle.rounds.proofs.Relax.{Takes, relax}
 
 -- ---- places
@@ -59,11 +59,6 @@ module _ (place : ℕ → ℕ → ℕ) (rules : ℕ → Rule) where
   row-long v (suc j) s = rw length-set (row-long v j s)
 
 module _ (place : ℕ → ℕ → ℕ) (n wide len : ℕ) (L : Places place n wide len) (rules : ℕ → Rule) where
-  -- a cell's step leaves the other cells of its row
-  pub cell-local : (v : ℕ) → Within n v → Local wide (cellStep place rules v) (cell place v)
-  unfolding cellStep
-  cell-local v w i j s wi wj h = getD-set-other s (place v j) (place v i) _ 0 (λ e. h (L .apart v v i j w w wi wj e .1))
-
   -- a row's step leaves the other rows
   pub row-local : (i : ℕ) → Within wide i → Local n (rowStep place rules wide) (λ v. cell place v i)
   unfolding rowStep
@@ -118,7 +113,7 @@ module _ (place : ℕ → ℕ → ℕ) (n wide len : ℕ) (L : Places place n wi
     row-fix : (v : ℕ) (s : List ℕ) → Within n v → length s ≡ len → ((i : ℕ) → Within wide i → cell place v i (rowStep place rules wide v s) ≡ cell place v i s) → rowStep place rules wide v s ≡ s
     row-fix v s w l h = sym (row-is v s s w l refl (λ i k. sym (h i k) ∙ row-value v i s w k l) (λ q _. refl))
 
--- Columns past `wide` whose cells no step changes may be taken along or left out: the rounds are the same.
+-- Columns past `wide` whose cells no step changes may be left out: the rounds are the same.
 module _ (place : ℕ → ℕ → ℕ) (rules : ℕ → Rule) (n wide more : ℕ) (P : List ℕ → Type 0)
     (keeps : (v : ℕ) → Within n v → Keeps wide (cellStep place rules v) P)
     (spare : (v i : ℕ) (t : List ℕ) → Within n v → wide < i → i ≤ wide + more → P t → cellStep place rules v i t ≡ t)
@@ -140,8 +135,38 @@ module _ (place : ℕ → ℕ → ℕ) (rules : ℕ → Rule) (n wide more : ℕ
         go (suc m) l = ap (rowStep place rules (wide + more) (suc m)) (go m (omega arith))
             ∙ spare-row (suc m) _ (within (omega arith) l) (sweep-keeps n (rowStep place rules wide) P (row-keeps place rules n wide P keeps) m t (omega arith) p)
 
-    pub spare-columns : {s t : List ℕ} {k : ℕ} → Rounds (tableRound place rules wide n) s k t → P s → Rounds (tableRound place rules (wide + more) n) s k t
-    spare-columns r p = rounds-mirror (tableRound place rules wide n) (tableRound place rules (wide + more) n) (λ t. t) P (round-keeps n (rowStep place rules wide) P (row-keeps place rules n wide P keeps)) spare-round (λ _ _ _ _ e. e) r p
+    keeps-round : (t : List ℕ) → P t → P (tableRound place rules wide n t)
+    keeps-round = round-keeps n (rowStep place rules wide) P (row-keeps place rules n wide P keeps)
+
+    pub spare-columns : {s t : List ℕ} {k : ℕ} → Rounds (tableRound place rules (wide + more) n) s k t → P s → Rounds (tableRound place rules wide n) s k t
+    spare-columns =
+        rounds-mirror (tableRound place rules (wide + more) n) (tableRound place rules wide n) (λ t. t) P (λ t p. rw (spare-round t p) (keeps-round t p))
+        (λ t p. sym (spare-round t p)) (λ _ _ _ _ e. e)
+
+-- Of sixteen columns, those past `wide` that hold 0, by rules that carry 0 as 0, may be left out.
+module _ (n wide : ℕ) (rules : ℕ → Rule) (few : wide ≤ 16) (sources : (i : ℕ) → Sources n (rules i .links))
+    (carried : (i v e : ℕ) → rules i .carry v e 0 ≡ 0) (joined : (i : ℕ) → rules i .join 0 0 ≡ 0)
+  where
+    -- the cells past `wide` hold 0
+    abbrev pub Empty : List ℕ → Type 0
+    Empty t = (v i : ℕ) → Within n v → wide < i → i ≤ 16 → cell cellPlace v i t ≡ 0
+
+    empty-keeps : (v : ℕ) → Within n v → Keeps wide (cellStep cellPlace rules v) Empty
+    unfolding cellStep
+    empty-keeps v w j t k p u i wu l h = getD-set-other t (cellPlace v j) (cellPlace u i) _ 0 (λ e. absurd (omega arith)) ∙ p u i wu l h
+
+    empty-stays : (v i : ℕ) (t : List ℕ) → Within n v → wide < i → i ≤ 16 → Empty t → cellStep cellPlace rules v i t ≡ t
+    unfolding cellStep value
+    empty-stays v i t w l h p =
+        let none = gather-zero (rules i .join) (rules i .links .into? v) _ (rules i .links .m) (joined i) (p v i w l h)
+        (λ e k. ap (rules i .carry v e) (p (rules i .links .source e) i (sources i e k) l h) ∙ carried i v e) in
+        ap (set t (cellPlace v i)) (none ∙ sym (p v i w l h)) ∙ set-getD t (cellPlace v i) 0
+
+    pub empty-columns : {s t : List ℕ} {k : ℕ} → Empty s → Rounds (tableRound cellPlace rules 16 n) s k t → Rounds (tableRound cellPlace rules wide n) s k t
+    empty-columns {s} {t} {k} p r =
+        let e : 16 ≡ wide + (16 - wide) = omega arith in
+        spare-columns cellPlace rules n wide (16 - wide) Empty empty-keeps (λ v i t w l h q. empty-stays v i t w l (omega arith) q)
+        (subst (λ (x : ℕ). Rounds (tableRound cellPlace rules x n) s k t) e r) p
 
 -- an entry's step leaves the other entries of a vector
 pub entry-local : (n : ℕ) (rule : Rule) → Local n (entryStep rule) entry

@@ -11,8 +11,8 @@ use lib.ListN.{length, getD, set, length-set}
 use lib.Seq.{set-getD, getD-set-same}
 use Rattle.rounds.specs.Rounds.{Within, sweep, Rounds, quiet, busy}
 use Rattle.rounds.specs.Rule.{Rule, value}
-use Rattle.rounds.specs.Table.{cell, cellStep, rowStep}
-use Rattle.rounds.specs.Loop.{Told, RowMoved, Ends}
+use Rattle.rounds.specs.Table.{cell, cellStep}
+use Rattle.rounds.specs.Loop.{Told, Ends}
 use Rattle.rounds.proofs.InPlace.{Local, Moved, moved-on, moved-now, moved-busy}
 
 -- a flag that is up, or down, has one thing to say
@@ -70,12 +70,6 @@ swept-round {step = step} {get = get} {s = s} {n = n} w = record {
   moved = λ q. let (i, x, d) = w .told .moved q in rw (w .is) (moved-busy step (λ v. get v i) n s d);
   still = w .told .still;
 }
-
--- the loop's end, for a row: whether a cell of it changed
-pub swept-row : (place : ℕ → ℕ → ℕ) (rules : ℕ → Rule) (wide v : ℕ) {s t : List ℕ} {b : Bool} → Swept 1 (cellStep place rules v) (λ i _. cell place v i) s wide t b
-    → (t ≡ rowStep place rules wide v s) × Told b (RowMoved place wide v s t) (t ≡ s)
-unfolding rowStep
-swept-row place rules wide v w = (w .is, record { moved = λ q. let (_, _, m) = w .told .moved q in (m .0, m .1, rw (w .is) (m .2)); still = w .told .still })
 
 -- what a cell's step sets, where the code has found its value x for place `at`
 pub cell-step : (place : ℕ → ℕ → ℕ) (rules : ℕ → Rule) (v i : ℕ) (t : List ℕ) {at x : ℕ} → at ≡ place v i → x ≡ value (rules i) (λ u. cell place u i t) v → cellStep place rules v i t ≡ set t at x

@@ -1,10 +1,9 @@
 -- "Checked by hand. Marked * are proved.": the marked cases, in document 01's order, and what each of them says of the definitions.
 use Prim.Native.Nat.{ℕ}
 use mathlib.Core.Path.{_≡_}
-use mathlib.Core.List.{List, [], _∷_}
+use mathlib.Core.List.{List, [], _∷_, _++_}
 use lib.ListN.{length}
 use Rattle.wire.specs.Numbers.{encode, numberAt}
-use Rattle.wire.specs.declared.numbers.Cursor.{Cursor}
 use Rattle.wire.specs.declared.numbers.Number.the-variants.{Value, Fault}
 use Rattle.wire.specs.Found.{good, fault}
 use Rattle.graph.specs.Content.{Graph}
@@ -26,6 +25,8 @@ pub data Case : Type 0 where
   graphAccepted : List ℕ → Case
   -- this graph file is refused, with this number and place
   graphRefused : List ℕ → ℕ → ℕ → Case
+  -- this graph file, with any one byte more, is refused, with this number and place
+  graphMoreRefused : List ℕ → ℕ → ℕ → Case
   -- the graph has these tables
   tablesAre : Graph → Tables → Case
   -- the cover distance from one vertex to another
@@ -39,6 +40,7 @@ Holds (numberIs k bytes) = (encode k ≡ bytes) × (numberAt bytes 0 ≡ Value k
 Holds (numberRefused bytes k) = numberAt bytes 0 ≡ Fault k 0
 Holds (graphAccepted bytes) = (p : Parsed) × (graphOf bytes ≡ good p)
 Holds (graphRefused bytes k place) = graphOf bytes ≡ fault k place
+Holds (graphMoreRefused bytes k place) = (b : ℕ) → graphOf (bytes ++ (b ∷ [])) ≡ fault k place
 Holds (tablesAre g t) = IsTables g t
 Holds (coverIs g u v s) = IsCover g u v s
 Holds (chainIs g a score chain rounds) = (scores : List ℕ) × Works g a (record { scores = scores; chain = chain; score = score; rounds = rounds })
@@ -57,7 +59,7 @@ starred =
     -- "* 01 01 01 41 00 01 01 01 accepted; one byte less: 1, place 7; one more: 10, place 8."
     ∷ graphAccepted (0x01 ∷ 0x01 ∷ 0x01 ∷ 0x41 ∷ 0x00 ∷ 0x01 ∷ 0x01 ∷ 0x01 ∷ [])
     ∷ graphRefused (0x01 ∷ 0x01 ∷ 0x01 ∷ 0x41 ∷ 0x00 ∷ 0x01 ∷ 0x01 ∷ []) 1 7
-    ∷ graphRefused (0x01 ∷ 0x01 ∷ 0x01 ∷ 0x41 ∷ 0x00 ∷ 0x01 ∷ 0x01 ∷ 0x01 ∷ 0x00 ∷ []) 10 8
+    ∷ graphMoreRefused (0x01 ∷ 0x01 ∷ 0x01 ∷ 0x41 ∷ 0x00 ∷ 0x01 ∷ 0x01 ∷ 0x01 ∷ []) 10 8
     -- "* 01 02 01 41 01 43 00 01 01 01: 9, place 10."
     ∷ graphRefused (0x01 ∷ 0x02 ∷ 0x01 ∷ 0x41 ∷ 0x01 ∷ 0x43 ∷ 0x00 ∷ 0x01 ∷ 0x01 ∷ 0x01 ∷ []) 9 10
     -- "* G1: reach rows for vertices 1 to 4: 1 1; 2 1; 1 2; 3 3. Distances: 0 0; 0 2; 2 0; 0 0."

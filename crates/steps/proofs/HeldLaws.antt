@@ -1,18 +1,21 @@
--- The anchors of a setting, and that their best scores are low. Assumes nothing.
-use Prim.Native.Nat.{ℕ, zero, suc, _*_, _≤_, _<_}
+-- The anchors of a setting, how their best scores follow from those before, and that they are low. Assumes nothing.
+use Prim.Native.Nat.{ℕ, zero, suc, _+_, _-_, _*_, _≤_, _<_}
 use mathlib.Core.Path.{_≡_, refl, ap, _∙_}
+use mathlib.Core.Logic.{_⊎_, inl, inr}
 use mathlib.Core.List.{List}
 use native.Mathlib.Omega.{arith}
 use lib.ListN.{length}
 use Rattle.wire.specs.Sizes.{mostWeight}
 use Rattle.rounds.specs.Rounds.{Within}
+use Rattle.rounds.specs.Table.{entry}
 use Rattle.rounds.proofs.Upto.{within}
 use Rattle.graph.specs.Content.{Graph}
 use Rattle.anchors.specs.Anchors.{Anchor, AnchorSet}
 use Rattle.chain.specs.Steps.{anchorAt, Step}
 use Rattle.chain.specs.Chains.{Chain, one, more, IsBest}
 use Rattle.chain.proofs.StepLaws.{Sound, good-sound, step-one, step-rises}
-use Rattle.chain.proofs.BestScores.{chain-within}
+use Rattle.chain.proofs.BestScores.{chain-within, follows-best}
+use Rattle.pair_step.specs.Pairs.{Greatest}
 use Rattle.steps.specs.Setting.{Setting, anchorOf, stepOf, Holds, Prepared}
 use Rattle.steps.specs.Scores.{AllBest, Scored}
 use Rattle.steps.proofs.SettingLaws.{anchor-fits, held-not, held-step}
@@ -46,6 +49,30 @@ module _ {s : Setting} {g : Graph} {a : AnchorSet} (H : Holds s g a) where
       on (suc x) e =
           e ∙ ap suc (step-one g (anchorAt (a .anchors) i) (anchorAt (a .anchors) j) x k (held-step H i j wi wj x e) p)
 
+  -- The greatest of the weight of anchor j and of the candidates of anchors that have their best scores, among them all that come before j in the read, is
+  -- the best score of j, however it is found.
+  pub greatest-best : {P : ℕ → Type 0} (S : List ℕ) (j : ℕ) {x : ℕ} → Within (s .count) j → ((i : ℕ) → P i → Within (s .count) i)
+      → ((i : ℕ) → Within (s .count) i → anchorOf s i .c < anchorOf s j .c → P i × IsBest g (a .anchors) i (entry i S))
+      → Greatest (anchorOf s j .weight) (anchorOf s j .weight) (λ i. stepOf s i j) (λ i. entry i S) P x → IsBest g (a .anchors) j x
+  greatest-best {P} S j {x} w there known b = follows-best g (a .anchors) (λ i. entry i S) j x (held-within w) (record {
+    known = λ i k wi p. known i (within-held wi) (held-order i j k (within-held wi) w p) .1;
+    heavy = omega (arith, b .heavy, weigh);
+    each = λ i k wi p.
+        let e = step-told i j k (within-held wi) w p in
+        omega (arith, b .each i (known i (within-held wi) (held-order i j k (within-held wi) w p) .0) (omega arith), weigh);
+    which = on (b .which);
+  })
+    where
+      weigh : anchorOf s j .weight ≡ anchorAt (a .anchors) j .weight
+      weigh = held-number (λ b. b .weight) j w
+
+      on : (x ≡ anchorOf s j .weight) ⊎ ((i : ℕ) × P i × (1 ≤ stepOf s i j) × (entry i S + anchorOf s j .weight ≡ x + (stepOf s i j - 1)))
+          → (x ≡ anchorAt (a .anchors) j .weight)
+          ⊎ ((i : ℕ) × (k : ℕ) × Within (length (a .anchors)) i × Step g (anchorAt (a .anchors) i) (anchorAt (a .anchors) j) k × (entry i S + anchorAt (a .anchors) j .weight ≡ x + k))
+      on (inl e) = inl (e ∙ weigh)
+      on (inr (i, p, l, e)) =
+          inr (i, stepOf s i j - 1, held-within (there i p), held-step H i j (there i p) w (stepOf s i j - 1) (omega arith), omega (arith, weigh))
+
   -- the weights of a chain are at most the greatest weight for each place of the read up to its last anchor's first
   chain-light : {js : List ℕ} {j w k : ℕ} → Chain g (a .anchors) js j w k → w ≤ mostWeight * anchorOf s j .c
   chain-light (one {j = j} l) =
@@ -59,10 +86,6 @@ module _ {s : Setting} {g : Graph} {a : AnchorSet} (H : Holds s g a) where
   -- .. and so is a best score
   pub best-low : (j t : ℕ) → IsBest g (a .anchors) j t → t ≤ mostWeight * anchorOf s j .c
   best-low j t b = omega (arith, b .attained, chain-light (b .chain))
-
--- best scores of a setting that is there
-pub best-scored : {s : Setting} {S : List ℕ} → Prepared s → length S ≡ s .count → AllBest s S → Scored s S
-best-scored p l b = record { g = p .g; a = p .a; holds = p .holds; size = l; best = λ j w. b (p .g) (p .a) (p .holds) j w }
 
 -- a list as long as another has the same room
 pub room-kept : (m n full : ℕ) → m ≡ n → full ≤ n → full ≤ m

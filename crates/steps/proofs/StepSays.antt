@@ -21,7 +21,7 @@ use Rattle.cover.proofs.CoverLaws.{cover-at-least, cover-few}
 use Rattle.cover.proofs.GoesLaws.{cover-goes, says-none, closed-none, closed-goes, closed-at-least}
 use Rattle.cover.proofs.TablesThere.{closed-few}
 use Rattle.chain.specs.Steps.{Before, Jump, ahead, round, across, Step}
-use Rattle.pair_step.specs.Pairs.{jumpIn, stepIn}
+use Rattle.pair_step.specs.Pairs.{readGapIn, graphGapIn, jumpIn, stepIn}
 use Rattle.steps.specs.Setting.{closedEntry}
 use Rattle.pair_step.proofs.PairLaws.{jump-ahead, jump-apart, jump-round, step-late, step-none, step-some}
 
@@ -45,8 +45,14 @@ entry-suc (suc x) t e = (omega arith, omega arith)
 back-again : (a b : ℕ) → a + 1 ≤ b → b - (1 + a) + 1 + a ≡ b
 back-again a b l = omega arith
 
-gap-sum : (c d t x y k : ℕ) → y + 1 ≤ t + x → suc k ≡ c - d - 1 + (suc t + x - 1 - y) → k ≡ c - (1 + d) + (t + x - (1 + y))
-gap-sum c d t x y k l e = omega arith
+read-same : (c d : ℕ) → readGapIn d c ≡ c - (1 + d)
+read-same c d = omega arith
+
+graph-same : (t x y : ℕ) → graphGapIn (suc t - 1) x y ≡ t + x - (1 + y)
+graph-same t x y = omega arith
+
+sum-same : {k p q a b : ℕ} → suc k ≡ p + q + 1 → p ≡ a → q ≡ b → k ≡ a + b
+sum-same e f g = omega arith
 
 -- what A's step to B counts: the jump, the way that it shows, and that it comes past A's last letter
 pub record Leap (g : Graph) (A B : Anchor) (t : ℕ) : Type 0 where
@@ -124,7 +130,7 @@ module _ {g : Graph} (G : GoodGraph g) {read : List ℕ} {A B : Anchor} (GA : Go
             inRead = back-again (d A) (B .c) (omega arith);
             graphGap = t + B .x - (1 + y A);
             inGraph = back-again (y A) (t + B .x) (omega arith);
-            sum = gap-sum (B .c) (d A) t (B .x) (y A) k (omega arith) (sym e ∙ z ∙ ap (λ (j : ℕ). B .c - d A - 1 + (j + B .x - 1 - y A)) q);
+            sum = sum-same (sym e ∙ z ∙ ap (λ (j : ℕ). readGapIn (d A) (B .c) + graphGapIn (j - 1) (B .x) (y A) + 1) q) (read-same (B .c) (d A)) (graph-same t (B .x) (y A));
           }
 
   -- the row's entry for A's vertex is 0, or more than A's last letter, and small

@@ -1,7 +1,7 @@
 -- The rounds over a setting are the rounds of the sweep: they end, and leave each anchor the best score of all chains that end there. Assumes nothing.
 use Prim.Native.Nat.{ℕ, zero, suc, _+_, _-_, _≤_, _<_, max}
 use mathlib.Core.Path.{_≡_, refl, sym, ap, _∙_, subst}
-use mathlib.Core.Logic.{_⊎_, inl, inr, ite}
+use mathlib.Core.Logic.{ite}
 use mathlib.Core.List.{List}
 use native.Mathlib.Decide.{decLe}
 use native.Mathlib.Nat.{le-refl}
@@ -19,15 +19,9 @@ use Rattle.rounds.proofs.Counts.{rounds-mirror}
 use Rattle.graph.specs.Content.{Graph}
 use Rattle.anchors.specs.Anchors.{Anchor, AnchorSet}
 use Rattle.anchors.specs.AnchorRules.{noAnchor}
-use Rattle.cover.specs.Walks.{L, Goes}
-use Rattle.cover.specs.Cells.{IsClosed}
-use Rattle.cover.proofs.WalkLaws.{joined-to, goes-first}
-use Rattle.cover.proofs.GoesLaws.{goes-cover}
-use Rattle.cover.proofs.CoverLaws.{cover-at-least}
 use Rattle.chain.specs.Steps.{anchorAt}
 use Rattle.chain.specs.Sweep.{IsSteps, weights, stepLinks, sweepRound, Swept, none, rounds}
 use Rattle.chain.proofs.StepLaws.{Sound, good-sound}
-use Rattle.chain.proofs.StepsThere.{Distances}
 use Rattle.chain.proofs.SweepLaws.{SweptWell, sweep-settles, swept-well}
 use Rattle.steps.specs.Setting.{Setting, anchorOf, stepOf, Holds}
 use Rattle.sweep_engine.specs.Sweeping.{ruleOf, roundOf, weightsOf, SweptIn, empty, made}
@@ -103,20 +97,6 @@ module _ {s : Setting} {g : Graph} {a : AnchorSet} (H : Holds s g a) where
         let (wi, wj, q) = gate-some (within? (s .count) i) (within? (s .count) j) (stepOf s i j) k e in
         (anchor-within wi, anchor-within wj, held-step H i j wi wj k q);
   }
-
-  -- where a walk of at least one edge goes there is the distance that a step counts, and it is L(u) or more
-  pub distances : Distances g
-  distances = record {
-    closed = λ v l x.
-        let w = joined-to (H .good) (x .edge) in
-        let c = H .closed v (within (w .low) (omega (arith, H .vertices))) in
-        (entry v (s .closed), c, long v l x c (c .attained));
-    cover = λ u v l n x. let (t, c) = goes-cover (H .good) n x in (t, c, cover-at-least (H .good) n c);
-  }
-    where
-      long : (v l : ℕ) → Goes g v v l → IsClosed g v (entry v (s .closed)) → ((entry v (s .closed) ≡ 0) × ((l : ℕ) → Goes g v v l → ⊥)) ⊎ Goes g v v (entry v (s .closed)) → L g v ≤ entry v (s .closed)
-      long v l x c (inl (_, n)) = absurd (n l x)
-      long v l x c (inr q) = goes-first q
 
   -- ---- the rounds
 

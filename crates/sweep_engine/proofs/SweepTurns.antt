@@ -19,9 +19,9 @@ use Rattle.rounds.proofs.Turns.{Swept, swept-kept, swept-set, cell-step, Loopin
 use Rattle.graph.specs.Content.{Graph}
 use Rattle.anchors.specs.Anchors.{AnchorSet}
 use Rattle.anchors.specs.AnchorEntries.{anchorIn}
-use Rattle.pair_step.specs.Pairs.{bestIn, EndsFit, RowFits, ScoresFit}
+use Rattle.pair_step.specs.Pairs.{EndsFit, RowFits, ScoresFit}
 use Rattle.steps.specs.Setting.{Setting, rowIn, stepOf, Holds}
-use Rattle.sweep_engine.specs.Sweeping.{ruleOf, roundOf, weightsOf, SweptIn, empty}
+use Rattle.sweep_engine.specs.Sweeping.{bestIn, ruleOf, roundOf, weightsOf, SweptIn, empty}
 use Rattle.steps.specs.Rowing.{tablesOf}
 use Rattle.steps.specs.Scores.{ScoresLow}
 use Rattle.steps.proofs.RowLaws.{tables-row}

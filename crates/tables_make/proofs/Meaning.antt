@@ -2,45 +2,43 @@
 use Prim.Native.Nat.{ℕ, zero, suc, _+_, _-_, _*_, _/_, _%_, _≤_, _<_, _^_, max, zero-le}
 use mathlib.Core.Path.{_≡_, refl, sym, ap, _∙_, subst}
 use mathlib.Core.Logic.{_⊎_, inl, inr}
-use mathlib.Core.List.{List, [], _∷_}
-use native.Mathlib.Nat.{le-refl}
-use native.Mathlib.Decide.{ℕ-discrete, decLe}
+use mathlib.Core.List.{List, []}
+use native.Mathlib.Decide.{decLe}
 use native.Mathlib.Omega.{arith}
 use lib.ListN.{length, getD, take, drop, length-take, List·getD-eq-default}
 use lib.Seq.{getD-take}
-use Rattle.wire.specs.Sizes.{tableRow, pathRoom, mostLetters, mostVertices}
+use Rattle.wire.specs.Sizes.{tableRow, pathRoom, mostLetters}
 use Rattle.rounds.specs.Rounds.{Within, Rounds, sweep, iterate}
 use Rattle.rounds.specs.Rule.{Rule, value}
 use Rattle.rounds.specs.Place.{cellPlace}
 use Rattle.rounds.specs.Table.{cell, cellStep, rowStep, tableRound, entry}
-use Rattle.rounds.specs.Loop.{Ends, Settles}
+use Rattle.rounds.specs.Loop.{Ends}
 use Rattle.rounds.specs.Kinds.{shift, closer}
 use Rattle.rounds.proofs.Upto.{within}
 use Rattle.rounds.proofs.Counts.{settles-ends, settled}
 use Rattle.rounds.proofs.InPlace.{Keeps, passes}
 use Rattle.rounds.proofs.Table.{row-keeps}
 use Rattle.graph.specs.Content.{Graph, vertexCount, edgeCount, pathCount}
-use Rattle.graph.specs.Good.{GoodGraph}
-use Rattle.cover.specs.Walks.{L, from, to}
+use Rattle.cover.specs.Walks.{L, from}
 use Rattle.cover.specs.Cells.{vertex, IsClosed}
 use Rattle.cover.specs.CoverDistance.{pathAt}
-use Rattle.cover.specs.TableRounds.{tableOf, own, home, reachColumn, reachStart, reachRound, columnOver, distanceStart, distanceRound, known, levelLinks, edgeLinks}
-use Rattle.cover.specs.TableEntries.{Tables, IsTables}
+use Rattle.cover.specs.TableRounds.{tableOf, own, home, reachColumn, reachStart, reachRound, columnOver, distanceStart, distanceRound, known, edgeLinks}
+use Rattle.cover.specs.TableEntries.{IsTables}
 use Rattle.cover.specs.Finished.{ReachTable}
-use Rattle.cover.specs.LeastWalks.{walkRule, walkStart, walkRound, roundTrip, closedBy}
+use Rattle.cover.specs.LeastWalks.{walkRule, walkRound, roundTrip, closedBy}
 use Rattle.cover.proofs.GoodLaws.{edge-from, edge-to, labels-few, path-short, path-vertex}
 use Rattle.cover.proofs.Low.{total-term}
 use Rattle.cover.proofs.LowTables.{LowTable, low-entry, distance-begins, distance-keeps}
-use Rattle.cover.proofs.ReachRounds.{reach-settles, reach-within}
-use Rattle.cover.proofs.DistanceRounds.{distance-settles}
+use Rattle.cover.proofs.ReachRounds.{reachSixteen, reach-sixteen, reach-by-paths, reach-settles, reach-within}
+use Rattle.cover.proofs.DistanceRounds.{distanceSixteen, distance-sixteen, distance-by-paths}
 use Rattle.cover.proofs.ClosedRounds.{walks-settle, closed-is}
 use Rattle.cover.proofs.TablesThere.{walk-begins, walk-keeps, tables-made}
 use Rattle.table_rows.specs.Lists.{Listed}
-use Rattle.table_rows.specs.HeldEdges.{source, target, Held, Linked}
-use Rattle.table_rounds.specs.Held.{labelLength, pathIn, PathsHeld, Holds, heldLinks, heldLevels, raise, raiseRound, near, nearRow, nearRound, onward, onwardRow, onwardRound, Fitting, Settling}
+use Rattle.table_rows.specs.HeldEdges.{target, Held, Linked}
+use Rattle.table_rounds.specs.Held.{labelLength, pathIn, PathsHeld, Holds, heldLinks, raise, raiseRound, near, nearRow, nearRound, onward, onwardRow, onwardRound, Fitting, Settling}
 use Rattle.closed_rounds.specs.Closing.{sixteenStart, backBy, ClosedBy, Closable}
 use Rattle.table_rounds.proofs.Starts.{table-ext, homesIn}
-use Rattle.tables_make.proofs.Same.{Alike, gather-same, row-alike}
+use Rattle.tables_make.proofs.Same.{gather-same, row-alike}
 
 -- the start of the reach table
 abbrev pub ownStart : ℕ → List ℕ → List ℕ → List ℕ
@@ -91,17 +89,17 @@ module _ {g : Graph} {lengths edges paths counts : List ℕ} (H : Holds g (verte
   reach-rows : rowStep cellPlace (λ _. raise (edgeCount g) edges) tableRow ≡ rowStep cellPlace (λ i. reachColumn g (pathAt g i) .rule) tableRow
   reach-rows = row-alike cellPlace (λ _. raise (edgeCount g) edges) (λ i. reachColumn g (pathAt g i) .rule) tableRow (λ i _. reach-alike i)
 
-  reach-rounds : raiseRound (vertexCount g) (edgeCount g) edges ≡ reachRound g
+  reach-rounds : raiseRound (vertexCount g) (edgeCount g) edges ≡ reachSixteen g
   reach-rounds = ap (λ (row : ℕ → List ℕ → List ℕ). sweep row (vertexCount g)) reach-rows
 
   reach-starts : ownStart (vertexCount g) paths counts ≡ reachStart g
   reach-starts = table-ext (vertexCount g) _ _ (λ v i w k. ap (λ (p : List ℕ). own p v (length p)) (H .pathsAre i k))
 
   reach-ends-here : Ends (vertexCount g) (raiseRound (vertexCount g) (edgeCount g) edges) (ownStart (vertexCount g) paths counts)
-  reach-ends-here = rw (reach-rounds, reach-starts) (settles-ends (reach-settles (H .good)))
+  reach-ends-here = rw (reach-rounds, reach-starts) (settles-ends (reach-sixteen (H .good)))
 
   reach-made : {k : ℕ} {t : List ℕ} → Rounds (raiseRound (vertexCount g) (edgeCount g) edges) (ownStart (vertexCount g) paths counts) k t → Rounds (reachRound g) (reachStart g) k t
-  reach-made r = rw (reach-rounds, reach-starts) at r
+  reach-made r = reach-by-paths (H .good) (rw (reach-rounds, reach-starts) at r)
 
   -- ---- distance
 
@@ -118,7 +116,7 @@ module _ {g : Graph} {lengths edges paths counts : List ℕ} (H : Holds g (verte
     near-rows : nearRow (edgeCount g) lengths edges reach ≡ rowStep cellPlace (λ i. columnOver g reach i .rule) tableRow
     near-rows = row-alike cellPlace (near (edgeCount g) lengths edges reach) (λ i. columnOver g reach i .rule) tableRow near-alike
 
-    near-rounds : nearRound (vertexCount g) (edgeCount g) lengths edges reach ≡ distanceRound g reach
+    near-rounds : nearRound (vertexCount g) (edgeCount g) lengths edges reach ≡ distanceSixteen g reach
     near-rounds = ap (λ (row : ℕ → List ℕ → List ℕ). sweep row (vertexCount g)) near-rows
 
   -- what is low fits
@@ -143,13 +141,13 @@ module _ {g : Graph} {lengths edges paths counts : List ℕ} (H : Holds g (verte
 
   distance-settling : (reach : List ℕ) → ReachTable g (pathAt g) reach → Settling (vertexCount g) lengths (near (edgeCount g) lengths edges reach) (tableOf (vertexCount g) (homesIn paths reach))
   distance-settling reach R = record {
-    ends = rw (near-rounds reach, distance-starts reach R) (settles-ends (distance-settles (H .good) R));
+    ends = rw (near-rounds reach, distance-starts reach R) (settles-ends (distance-sixteen (H .good) R));
     fitting = λ k v h. rw (near-rows reach, distance-starts reach R) (low-fits _ (on-the-way (λ i. columnOver g reach i .rule) (distanceStart g reach) (distance-keeps (H .good) reach) (distance-begins (H .good) reach) k v h));
   }
 
   distance-made : (reach : List ℕ) → ReachTable g (pathAt g) reach → {k : ℕ} {t : List ℕ} → Rounds (nearRound (vertexCount g) (edgeCount g) lengths edges reach) (tableOf (vertexCount g) (homesIn paths reach)) k t
       → Rounds (distanceRound g reach) (distanceStart g reach) k t
-  distance-made reach R r = rw (near-rounds reach, distance-starts reach R) at r
+  distance-made reach R r = distance-by-paths (H .good) R (rw (near-rounds reach, distance-starts reach R) at r)
 
   -- ---- closed walks
 

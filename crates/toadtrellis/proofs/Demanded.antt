@@ -12,7 +12,6 @@ use Rattle.anchors.specs.AnchorEntries.{Both, bothReply}
 use Rattle.anchors.proofs.BothFiles.{both-taken, both-good}
 use Rattle.chain.specs.ChainEntries.{Result, ChainBuffers, roomyChain, chainReply, filledChain, IsSweep, IsPlain}
 use Rattle.chain.specs.Demands.{Demanded}
-use Rattle.chain.proofs.StepLaws.{good-sound}
 use Rattle.chain.proofs.Demands.{sweep-demanded, plain-demanded}
 use Rattle.placing.specs.Answer.{Outcome}
 use Rattle.placing.specs.declared.ChainAnswer.{ChainAnswer}
@@ -54,9 +53,7 @@ module _ (graph file : List ℕ) (b after : ChainBuffers) (r : ToadChain) (p : B
 
   -- "Given any anchor, the chain is valid, no valid chain of the given anchors scores higher, and of equal chains the named one comes back."
   pub sweep-met : ChainFound IsSweep graph file b after r → Met IsSweep (p .graph .graph) (p .anchors .set .anchors) b after r
-  sweep-met h =
-      let G = both-good graph file p (both-taken graph file p both) .1 in
-      met IsSweep (λ t. sweep-demanded (p .graph .graph) (p .anchors .set .anchors) (good-sound G) t) h
+  sweep-met = let (G, A) = both-good graph file p (both-taken graph file p both) in met IsSweep (sweep-demanded G A)
 
   pub plain-met : ChainFound IsPlain graph file b after r → Met IsPlain (p .graph .graph) (p .anchors .set .anchors) b after r
-  plain-met h = met IsPlain (plain-demanded (p .graph .graph) (p .anchors .set .anchors)) h
+  plain-met = let (G, A) = both-good graph file p (both-taken graph file p both) in met IsPlain (plain-demanded G A)

@@ -17,7 +17,6 @@ use Rattle.chain.specs.ChainEntries.{ChainBuffers, IsSweep, IsPlain}
 use Rattle.cover.specs.TableEntries.{TableBuffers}
 use Rattle.placing.proofs.Answering as placing
 use Rattle.placing.specs.declared.ChainAnswer.{ChainAnswer}
-use Rattle.placing_over.specs.declared.over.Engine.the-variants.{Sweep, Plain}
 use Rattle.tables.proofs.Tabling as tables
 use Rattle.tables.specs.declared.TablesAnswer.{TablesAnswer}
 use Rattle.toadtrellis.specs.declared.ToadGraph.{ToadGraph}
@@ -100,12 +99,12 @@ tables-made-one file b x y r q h k = let e = tables.one-answer file b x y _ _ h 
 pub sweep-found-one : (graph file : List ℕ) (b x y : ChainBuffers) (r q : ToadChain)
     → ChainFound IsSweep graph file b x r → ChainFound IsSweep graph file b y q → (r ≡ q) × (x ≡ y)
 unfolding toadChain
-sweep-found-one graph file b x y r q h k = let e = placing.one-answer Sweep graph file b x y _ _ h k in (ap toadChain (e .0), e .1)
+sweep-found-one graph file b x y r q h k = let e = placing.one-answer IsSweep placing.sweep-one graph file b x y _ _ h k in (ap toadChain (e .0), e .1)
 
 pub plain-found-one : (graph file : List ℕ) (b x y : ChainBuffers) (r q : ToadChain)
     → ChainFound IsPlain graph file b x r → ChainFound IsPlain graph file b y q → (r ≡ q) × (x ≡ y)
 unfolding toadChain
-plain-found-one graph file b x y r q h k = let e = placing.one-answer Plain graph file b x y _ _ h k in (ap toadChain (e .0), e .1)
+plain-found-one graph file b x y r q h k = let e = placing.one-answer IsPlain placing.plain-one graph file b x y _ _ h k in (ap toadChain (e .0), e .1)
 
 pub letters-found-one : (graph anchors : List ℕ) (j file : ℕ) (r q : ToadPart)
     → LettersFound graph anchors j file r → LettersFound graph anchors j file q → r ≡ q

@@ -1,11 +1,9 @@
 -- What reading finds, and what an entry replies.
 use Prim.Native.Nat.{ℕ}
 use mathlib.Core.List.{List}
-use mathlib.Core.Bool.{Bool, true, false}
 use lib.Dec.{eqb}
 use Rattle.wire.specs.Cases.{pick}
 use Rattle.wire.specs.Numbers.{numberAt}
-use Rattle.wire.specs.declared.numbers.Cursor.{Cursor}
 use Rattle.wire.specs.declared.numbers.Number.{Number}
 use Rattle.wire.specs.declared.numbers.Number.the-variants.{Value, Fault}
 
@@ -51,3 +49,17 @@ inFile file (fault k place) = refused k file place
 abbrev pub onAccepted : {A B : Type 0} → Reply A → (A → Reply B) → Reply B
 onAccepted (accepted a) go = go a
 onAccepted (refused k file place) go = refused k file place
+
+-- of two refusal numbers the first, or where that is 0 the second: "The first fault in this order is the answer."
+abbrev pub first : ℕ → ℕ → ℕ
+first a b = pick (eqb a 0) b a
+
+-- the refusal number of what was found, 0 for none
+abbrev pub refusalNumber : {A : Type 0} → Found A → ℕ
+refusalNumber (good a) = 0
+refusalNumber (fault k place) = k
+
+-- what was found in the bytes of content, as a writer gives it: "with place 0 for faults of the content"
+abbrev pub asContent : {A B : Type 0} → (A → B) → Found A → Found B
+asContent f (good a) = good (f a)
+asContent f (fault k place) = fault k 0

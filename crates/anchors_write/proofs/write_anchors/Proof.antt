@@ -5,18 +5,16 @@ use native.Mathlib.Omega.{arith}
 use lib.ListN.{length}
 use denote.Ref.{now}
 use borrow.Author.Tests.{not-true, not-false}
-use Rattle.wire.specs.Found.{fault}
+use Rattle.wire.specs.Found.{fault, refusalNumber}
 use Rattle.wire.specs.Sizes.{mostRead, mostAnchors, fullLetters, fullAnchors}
 use Rattle.graph.specs.Reading.{graphOf}
 use Rattle.graph.proofs.Faulty.{graph-fault}
 use Rattle.anchors.specs.AnchorBytes.{encodeAnchors}
-use Rattle.anchors.specs.AnchorEntries.{AnchorsGiven, roomyAnchors}
+use Rattle.anchors.specs.AnchorEntries.{AnchorsGiven, setIn, anchorsGiven, roomyAnchors}
 use Rattle.anchors_parts.specs.LabelTables.{LabelsAt, contentOf}
 use Rattle.anchors.proofs.AnchorRooms.{full-buffers}
+use Rattle.anchors.proofs.AnchorWriting.{content-ranged}
 use Rattle.anchors_check.proofs.BothLaws.{checked-fault, graph-told}
-use Rattle.anchors_content.specs.InPlaces.{setIn}
-use Rattle.anchors_content.specs.FirstFaults.{contentFault}
-use Rattle.anchors_content.proofs.ContentSteps.{content-ranged}
 use Rattle.anchors_content.proofs.Sizing.{bytes-length}
 use Rattle.anchors_write.proofs.Promised.{small-written, graph-written, content-written, long-written, short-written, done-written}
 use borrow.Author.Needs.{needs}
@@ -68,7 +66,8 @@ sizes : (c : tie.After-known-told2)
 sizes c = full-buffers (given (fine-start c) .buffers) (full c)
 
 -- the content has no fault
-clean : (c : tie.Else2) → contentFault (contentOf (now (fine-start (c .before .before) .args .graph))) (given (fine-start (c .before .before))) ≡ 0
+clean : (c : tie.Else2)
+    → refusalNumber (anchorsGiven (contentOf (now (fine-start (c .before .before) .args .graph))) (given (fine-start (c .before .before)))) ≡ 0
 clean c = sym (c .before .content-fault .ensures) ∙ c .if2 .left
 
 ranged : (c : tie.Else2) → (fine-start (c .before .before) .args .r ≤ mostRead) × (fine-start (c .before .before) .args .n ≤ mostAnchors)

@@ -7,8 +7,8 @@ use lib.ListN.{length}
 use Rattle.wire.specs.Sizes.{graphKind}
 use Rattle.wire.proofs.Encoding.{encode-most}
 use Rattle.graph.specs.Encode.{encodeNumbers}
-use Rattle.graph.specs.Entries.{Given}
-use Rattle.graph_content.specs.Used.{givenOf, numbersIn}
+use Rattle.graph.specs.Entries.{Given, numbersIn}
+use Rattle.graph_content.specs.Used.{givenOf}
 use Rattle.graph_content.proofs.Encoded.{numbers-part, numbers-most, length-numbers, graph-length}
 use Rattle.graph_content.proofs.Sound.{Sound, sound}
 use borrow.Author.Needs.{needs}

@@ -11,8 +11,8 @@ use Rattle.wire.specs.Numbers.{encode}
 use Rattle.wire.specs.Lent.{front}
 use Rattle.wire.proofs.Rest.{rest-part}
 use Rattle.graph.specs.Encode.{encodeNumbers, encodeLabels, encodePaths, encodeGraph}
-use Rattle.graph.specs.Entries.{Given}
-use Rattle.graph_content.specs.Used.{givenOf, graphIn, numbersIn, labelsIn, pathsIn}
+use Rattle.graph.specs.Entries.{Given, graphIn, numbersIn, labelsIn, pathsIn}
+use Rattle.graph_content.specs.Used.{givenOf}
 use Rattle.graph_bytes.proofs.Along.{Along, along-first, along-as, along-room, along-fits, along-long, along-more, along-done}
 use Rattle.graph_content.proofs.Encoded.{numbers-part, graph-bytes}
 use Rattle.graph_content.proofs.Sound.{Sound, sound}

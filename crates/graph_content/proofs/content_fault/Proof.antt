@@ -1,10 +1,13 @@
 use native.Mathlib.Omega.{arith}
-use Prim.Native.Nat.{_≤_}
+use Prim.Native.Nat.{ℕ, _≤_}
 use mathlib.Core.Path.{_≡_, sym, _∙_}
 use Rattle.wire.specs.Sizes.{mostVertices, mostEdges, mostPaths}
+use Rattle.wire.specs.Found.{refusalNumber}
 use Rattle.graph.specs.Rules.{noEdge}
-use Rattle.graph_content.specs.Used.{edgesIn}
-use Rattle.graph_content.specs.Faults.{first, edgesFault, pathsFault, contentFault, Rising}
+use Rattle.graph.specs.Entries.{edgesIn, Given, graphGiven}
+use Rattle.graph_content.specs.Used.{givenOf}
+use Rattle.graph_content.proofs.Givens.{contentFault, Fits, given-fault}
+use Rattle.graph_content.specs.Faults.{Rising}
 use Rattle.graph_content.proofs.Faulting.{first-bad, first-none, within}
 use Rattle.graph_content.proofs.Sound.{edges-rise, paths-roomed, paths-inside}
 use borrow.Author.Needs.{needs}
@@ -19,6 +22,25 @@ use Rattle.graph_content.proofs.content.paths_fault.Reads as paths-faul
 use Rattle.graph_content.proofs.covered.cover_fault.Reads as cover-fault-reads
 
 -- helpers
+-- the content that is given, and that what is found as its first fault is what the reader would find
+abbrev content : tie.Start → Given
+content s = givenOf (s .args .n) (s .args .m) (s .args .k) (s .args .letters .now) (s .args .lengths .now) (s .args .edges .now) (s .args .paths .now) (s .args .counts .now)
+
+fit : (c : tie.After-shared-slice-known5) → Fits (content (c .before .before .before .before .before))
+fit c = record {
+  n = omega arith;
+  m = omega arith;
+  k = omega arith;
+  lengths = λ i. c .before .before .before .shared-slice-known2 .given i .fits;
+  edges = λ i. c .before .before .shared-slice-known3 .given i .fits;
+  paths = λ i. c .before .shared-slice-known4 .given i .fits;
+  counts = λ i. c .shared-slice-known5 .given i .fits;
+}
+
+found : (c : tie.After-shared-slice-known5) (r : ℕ) → contentFault (content (c .before .before .before .before .before)) ≡ r
+    → r ≡ refusalNumber (graphGiven (content (c .before .before .before .before .before)))
+found c r e = sym (given-fault (content (c .before .before .before .before .before)) (fit c) ∙ e)
+
 -- n, m and K are in range where they have no fault, and the edges rise
 few : (c : tie.Else1) → c .before .before .before .before .before .before .before .args .n ≤ mostVertices
 few c =
@@ -49,7 +71,9 @@ range-fault-requires c κs = search needs
 -- src/lib.rt:78:9
 returns : tie.Need-returns
 unfolding contentFault
-returns c = sym (first-bad _ _ _ (c .before .range-fault .ensures) (λ z. omega arith))
+returns c =
+    found (c .before .before) _
+    (first-bad _ _ _ (c .before .range-fault .ensures) (λ z. omega arith))
 
 -- src/lib.rt:80:9
 labels-fault-requires : tie.Need-labels-fault-requires
@@ -59,7 +83,8 @@ labels-fault-requires c κs = (few c, omega arith, omega arith)
 returns-2 : tie.Need-returns-2
 unfolding contentFault
 returns-2 c =
-    sym (first-none (c .before .before .before .range-fault .result) _ _ (c .before .before .before .range-fault .ensures) (omega arith)
+    found (c .before .before .before .before) _
+    (first-none (c .before .before .before .range-fault .result) _ _ (c .before .before .before .range-fault .ensures) (omega arith)
     ∙ first-bad _ _ _ (c .before .labels-fault .ensures) (λ z. omega arith))
 
 -- src/lib.rt:84:9
@@ -70,7 +95,8 @@ range-fault-requires-2 c κs = search needs
 returns-3 : tie.Need-returns-3
 unfolding contentFault
 returns-3 c =
-    sym (first-none (c .before .before .before .before .before .range-fault .result) _ _ (c .before .before .before .before .before .range-fault .ensures) (omega arith)
+    found (c .before .before .before .before .before .before) _
+    (first-none (c .before .before .before .before .before .range-fault .result) _ _ (c .before .before .before .before .before .range-fault .ensures) (omega arith)
     ∙ first-none (c .before .before .before .labels-fault .result) _ _ (c .before .before .before .labels-fault .ensures) (omega arith)
     ∙ first-bad _ _ _ (c .before .range-fault2 .ensures) (λ z. omega arith))
 
@@ -82,7 +108,8 @@ edges-fault-requires c κs = (fewEdges c, omega arith)
 returns-4 : tie.Need-returns-4
 unfolding contentFault
 returns-4 c =
-    sym (first-none (c .before .before .before .before .before .before .before .range-fault .result) _ _ (c .before .before .before .before .before .before .before .range-fault .ensures) (omega arith)
+    found (c .before .before .before .before .before .before .before .before) _
+    (first-none (c .before .before .before .before .before .before .before .range-fault .result) _ _ (c .before .before .before .before .before .before .before .range-fault .ensures) (omega arith)
     ∙ first-none (c .before .before .before .before .before .labels-fault .result) _ _ (c .before .before .before .before .before .labels-fault .ensures) (omega arith)
     ∙ first-none (c .before .before .before .range-fault2 .result) _ _ (c .before .before .before .range-fault2 .ensures) (omega arith)
     ∙ first-bad _ _ _ (c .before .edges-fault .ensures) (λ z. omega arith))
@@ -95,7 +122,8 @@ range-fault-requires-3 c κs = search needs
 returns-5 : tie.Need-returns-5
 unfolding contentFault
 returns-5 c =
-    sym (first-none (c .before .before .before .before .before .before .before .before .before .range-fault .result) _ _ (c .before .before .before .before .before .before .before .before .before .range-fault .ensures) (omega arith)
+    found (c .before .before .before .before .before .before .before .before .before .before) _
+    (first-none (c .before .before .before .before .before .before .before .before .before .range-fault .result) _ _ (c .before .before .before .before .before .before .before .before .before .range-fault .ensures) (omega arith)
     ∙ first-none (c .before .before .before .before .before .before .before .labels-fault .result) _ _ (c .before .before .before .before .before .before .before .labels-fault .ensures) (omega arith)
     ∙ first-none (c .before .before .before .before .before .range-fault2 .result) _ _ (c .before .before .before .before .before .range-fault2 .ensures) (omega arith)
     ∙ first-none (c .before .before .before .edges-fault .result) _ _ (c .before .before .before .edges-fault .ensures) (omega arith)
@@ -109,7 +137,8 @@ paths-fault-requires c κs = ((fewEdges (c .before .before .before .before), ome
 returns-6 : tie.Need-returns-6
 unfolding contentFault
 returns-6 c =
-    sym (first-none (c .before .before .before .before .before .before .before .before .before .before .before .range-fault .result) _ _ (c .before .before .before .before .before .before .before .before .before .before .before .range-fault .ensures) (omega arith)
+    found (c .before .before .before .before .before .before .before .before .before .before .before .before) _
+    (first-none (c .before .before .before .before .before .before .before .before .before .before .before .range-fault .result) _ _ (c .before .before .before .before .before .before .before .before .before .before .before .range-fault .ensures) (omega arith)
     ∙ first-none (c .before .before .before .before .before .before .before .before .before .labels-fault .result) _ _ (c .before .before .before .before .before .before .before .before .before .labels-fault .ensures) (omega arith)
     ∙ first-none (c .before .before .before .before .before .before .before .range-fault2 .result) _ _ (c .before .before .before .before .before .before .before .range-fault2 .ensures) (omega arith)
     ∙ first-none (c .before .before .before .before .before .edges-fault .result) _ _ (c .before .before .before .before .before .edges-fault .ensures) (omega arith)
@@ -131,7 +160,8 @@ cover-fault-requires c κs =
 returns-7 : tie.Need-returns-7
 unfolding contentFault
 returns-7 c =
-    sym (first-none (c .before .before .before .before .before .before .before .before .before .before .before .before .range-fault .result) _ _ (c .before .before .before .before .before .before .before .before .before .before .before .before .range-fault .ensures) (omega arith)
+    found (c .before .before .before .before .before .before .before .before .before .before .before .before .before) _
+    (first-none (c .before .before .before .before .before .before .before .before .before .before .before .before .range-fault .result) _ _ (c .before .before .before .before .before .before .before .before .before .before .before .before .range-fault .ensures) (omega arith)
     ∙ first-none (c .before .before .before .before .before .before .before .before .before .before .labels-fault .result) _ _ (c .before .before .before .before .before .before .before .before .before .before .labels-fault .ensures) (omega arith)
     ∙ first-none (c .before .before .before .before .before .before .before .before .range-fault2 .result) _ _ (c .before .before .before .before .before .before .before .before .range-fault2 .ensures) (omega arith)
     ∙ first-none (c .before .before .before .before .before .before .edges-fault .result) _ _ (c .before .before .before .before .before .before .edges-fault .ensures) (omega arith)

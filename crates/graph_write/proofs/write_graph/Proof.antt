@@ -1,15 +1,13 @@
+use Rattle.wire.specs.Found.{refusalNumber}
 use Rattle.graph_write.specs.declared.WrittenAnswer.{WrittenAnswer}
 use native.Mathlib.Omega.{arith}
-use Prim.Native.Nat.{ℕ, _≤_}
-use mathlib.Core.Path.{_≡_, refl, sym, ap, _∙_}
-use mathlib.Core.Bool.{Bool, true}
+use Prim.Native.Nat.{ℕ}
+use mathlib.Core.Path.{_≡_, sym, ap, _∙_}
+use mathlib.Core.Bool.{true}
 use borrow.Author.Tests.{not-true, not-false}
 use lib.ListN.{length}
-use Rattle.graph.specs.Encode.{encodeGraph}
-use Rattle.graph.specs.Entries.{Given}
-use Rattle.graph_content.specs.Used.{givenOf, graphIn}
-use Rattle.graph_content.specs.Faults.{contentFault}
-use Rattle.graph.specs.Entries.{roomFor}
+use Rattle.graph.specs.Entries.{Given, graphIn, roomFor, graphGiven}
+use Rattle.graph_content.specs.Used.{givenOf}
 use Rattle.graph_write.proofs.Replying.{sizes-full, reply-small, reply-fault, reply-long, reply-short, reply-good, written-not, written-all}
 use borrow.Author.Needs.{needs}
 use Rattle.graph_write.proofs.write_graph.Statement.{statement}
@@ -37,7 +35,7 @@ full : (c : tie.Else1)
 full c = sym (c .before .roomy .ensures) ∙ not-false _ (c .if1 .left)
 
 -- the content has no fault
-none : (c : tie.Else2) → contentFault (content (c .before .before .before .before .before .before .before .before .before .before)) ≡ 0
+none : (c : tie.Else2) → refusalNumber (graphGiven (content (c .before .before .before .before .before .before .before .before .before .before))) ≡ 0
 none c =
     let z : c .before .content-fault .result ≡ 0 = omega arith in
     sym (c .before .content-fault .ensures) ∙ z

@@ -1,6 +1,5 @@
-use Prim.Native.Nat.{ℕ, _≤_}
-use mathlib.Core.Path.{_≡_, sym, ap, _∙_}
-use mathlib.Core.List.{List}
+use Prim.Native.Nat.{_≤_}
+use mathlib.Core.Path.{_≡_, sym}
 use mathlib.Core.Bool.{true}
 use lib.ListN.{length, take, length-take}
 use lib.Seq.{length-take-le}
@@ -8,7 +7,7 @@ use native.Mathlib.Omega.{arith}
 use native.Mathlib.Nat.{le-of-eq}
 use denote.Ref.{now}
 use Rattle.wire.specs.Sizes.{fullAnchors, fullScores, fullChain}
-use Rattle.listing.specs.Lines.{Numbered}
+use Rattle.listing_text.specs.Lines.{Numbered}
 use Rattle.anchors.specs.AnchorEntries.{AnchorBuffers, roomyAnchors}
 use Rattle.chain.specs.ChainEntries.{ChainBuffers, roomyChain}
 use Rattle.placing.proofs.Reading.{full-anchors}
@@ -22,9 +21,9 @@ use Rattle.anchors_read.proofs.read_anchors.Reads as read-anchors-reads
 use Rattle.listing.proofs.anchors_room.Reads as anchors-room-reads
 use Rattle.listing.proofs.chain_room.Reads as chain-room-reads
 use Rattle.listing.proofs.letters_room.Reads as letters-room-reads
-use Rattle.listing.proofs.put_listing.Reads as put-listing-reads
-use Rattle.listing.proofs.put_refused.Reads as put-refused-reads
-use Rattle.placing.proofs.sweep.Reads as sweep-reads
+use Rattle.listing_text.proofs.put_listing.Reads as put-listing-reads
+use Rattle.listing_text.proofs.put_refused.Reads as put-refused-reads
+use Rattle.sweep_placing.proofs.sweep.Reads as sweep-reads
 
 -- the sweep's buffers, before and after: from after that call, the rooms are 3 and 4 back, and the start 8
 abbrev own : tie.After-sweep → ChainBuffers

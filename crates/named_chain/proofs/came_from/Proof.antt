@@ -8,8 +8,8 @@ use Rattle.pair_step.specs.Pairs.{RowFits}
 use Rattle.named_chain.specs.Returning.{Lowest, GivesIn}
 use Rattle.steps.specs.Setting.{Setting, anchorOf, stepOf, settingOf}
 use Rattle.steps.proofs.RowLaws.{tables-prepared, tables-row}
-use Rattle.steps.proofs.SettingLaws.{anchor-fits, ends-fit, row-fits, scores-fit}
-use Rattle.named_chain.proofs.WayLaws.{scored-low, origin-none, origin-from}
+use Rattle.steps.proofs.SettingLaws.{anchor-fits, ends-fit, row-fits}
+use Rattle.named_chain.proofs.WayLaws.{origin-none, origin-from}
 use Rattle.named_chain.proofs.came_from.Statement.{statement}
 use Rattle.named_chain.proofs.came_from.Tie as tie
 
@@ -83,12 +83,11 @@ giver-requires c κs =
     let H = k .pre .0 .holds in
     let w = k .pre .1 .0 in
     let f = anchor-fits H (a .j) w in
-    let e = c .before .before .before .before .before .make-row .ensures ∙ tables-row s (anchorOf s (a .j) .v) in
-    let t = scores-fit H (a .scores .now) (scored-low (k .pre .0)) in (
+    let e = c .before .before .before .before .before .make-row .ensures ∙ tables-row s (anchorOf s (a .j) .v) in (
       ends-fit H,
       (
         subst (λ (t : List ℕ). RowFits (a .count) (s .ends) t) (sym e) (row-fits H (anchorOf s (a .j) .v) (f .vertex) (a .j) w refl),
-        (t, (f .x .high, f .c .high, f .x .low, f .weight .high, t .1 (a .j - 1) (omega arith))),
+        (omega (arith, k .pre .0 .size), f .x .high, f .c .high, f .x .low),
       ),
     )
 

@@ -1,10 +1,9 @@
 use Prim.Native.Nat.{_-_, _≤_, _<_}
 use mathlib.Core.Logic.{⊎-elim}
 use native.Mathlib.Omega.{arith}
-use lib.ListN.{getD}
 use Rattle.pair_step.specs.Pairs.{Ends}
 use Rattle.named_chain.specs.Returning.{GivesIn}
-use Rattle.named_chain.proofs.BackLaws.{step-small, Passed, passed-none, passed-more, lowest-here, lowest-none, gives-at, gives-in}
+use Rattle.named_chain.proofs.BackLaws.{Passed, passed-none, passed-more, lowest-here, lowest-none, gives-at, gives-in}
 use Rattle.named_chain.proofs.giver.Statement.{statement}
 use Rattle.named_chain.proofs.giver.Tie as tie
 
@@ -43,37 +42,28 @@ step-requires c κs =
     let h : i < k .args .n = omega arith in
     ((f .low i h, f .high i h), (f .above i h, (f .small i h, omega arith, omega arith, omega arith)))
 
-mul-if2 : tie.Need-mul-if2 Inv-loop μ-loop
-mul-if2 c = omega arith
+mul-gives : tie.Need-mul-gives Inv-loop μ-loop
+mul-gives c = omega arith
 
-shared-slice-read-if2 : tie.Need-shared-slice-read-if2 Inv-loop μ-loop
-shared-slice-read-if2 c = omega arith
+shared-slice-read-gives : tie.Need-shared-slice-read-gives Inv-loop μ-loop
+shared-slice-read-gives c = omega arith
 
-add-if2 : tie.Need-add-if2 Inv-loop μ-loop
-add-if2 c = omega (arith, c .before .before .before .before .before .before .before .before .before .before .before .before .before .pre .1 .1 .0 .1 (c .before .before .before .before .before .before .before .loop .i) (omega arith))
+sub-gives : tie.Need-sub-gives Inv-loop μ-loop
+sub-gives c = omega arith
 
-sub-if2 : tie.Need-sub-if2 Inv-loop μ-loop
-sub-if2 c = omega arith
-
-add-if2-2 : tie.Need-add-if2-2 Inv-loop μ-loop
-add-if2-2 c =
-    let k = c .before .before .before .before .before .before .before .before .before .before .before .before .before in
-    let a = k .args in
-    let i = c .before .before .before .before .before .before .before .loop .i in
-    let f = k .pre .1 .0 in
-    let l : i < a .n = omega arith in
-    omega (arith, c .before .before .step .ensures, step-small (a .row .now) (getD (a .us .now) i 0) (getD (a .ys .now) i 0) (getD (a .ds .now) i 0) (a .v) (a .x) (a .c) (omega arith) (f .above i l) (f .small i l))
+gives-requires : tie.Need-gives-requires Inv-loop μ-loop
+gives-requires c κs = tt
 
 add-result : tie.Need-add-result Inv-loop μ-loop
 add-result c = omega arith
 
 returns : tie.Need-returns Inv-loop μ-loop
 returns c =
-    let k = c .before .before .before .before .before .before .before .before in
+    let k = c .before .before .before .before .before .before .before .before .before in
     let a = k .before .before .before .before .before .before .args in
-    let e = c .before .before .before .step .ensures in
+    let e = c .before .before .before .before .step .ensures in
     let ends : Ends = record { us = a .us .now; ys = a .ys .now; ds = a .ds .now } in
-    lowest-here (GivesIn ends (a .scores .now) (a .row .now) (a .score) (a .v) (a .x) (a .c) (a .weight)) (a .n) (k .loop .i) (omega arith) (k .loop .inv .1) (gives-in ends (a .scores .now) (a .row .now) (a .score) (a .v) (a .x) (a .c) (a .weight) (k .loop .i) (omega (arith, c .before .before .if1 .taken), omega (arith, c .if2 .taken)))
+    lowest-here (GivesIn ends (a .scores .now) (a .row .now) (a .score) (a .v) (a .x) (a .c) (a .weight)) (a .n) (k .loop .i) (omega arith) (k .loop .inv .1) (gives-in ends (a .scores .now) (a .row .now) (a .score) (a .v) (a .x) (a .c) (a .weight) (k .loop .i) (omega (arith, c .before .before .before .if1 .taken), omega (arith, c .before .gives .ensures .moved (c .if2 .taken))))
 
 add-i : tie.Need-add-i Inv-loop μ-loop
 add-i c = omega arith
@@ -89,7 +79,7 @@ loop-again c =
     let ends : Ends = record { us = a .us .now; ys = a .ys .now; ds = a .ds .now } in (
       omega arith,
       passed-more (GivesIn ends (a .scores .now) (a .row .now) (a .score) (a .v) (a .x) (a .c) (a .weight)) (a .n) (l .i) (l .inv .1)
-          (λ g. let h = gives-at ends (a .scores .now) (a .row .now) (a .score) (a .v) (a .x) (a .c) (a .weight) (l .i) g in ⊎-elim (λ w. omega (arith, w .2 .left)) (λ w. omega (arith, w .left)) (c .if1 .came)),
+          (λ g. let h = gives-at ends (a .scores .now) (a .row .now) (a .score) (a .v) (a .x) (a .c) (a .weight) (l .i) g in ⊎-elim (λ w. w .2 .ensures .still (w .3 .left) (omega (arith, h .1))) (λ w. omega (arith, w .left)) (c .if1 .came)),
     )
 
 returns-2 : tie.Need-returns-2 Inv-loop μ-loop
@@ -113,11 +103,10 @@ giver-spec =
     mul-step-3
     shared-slice-read-step-3
     step-requires
-    mul-if2
-    shared-slice-read-if2
-    add-if2
-    sub-if2
-    add-if2-2
+    mul-gives
+    shared-slice-read-gives
+    sub-gives
+    gives-requires
     add-result
     returns
     add-i

@@ -1,89 +1,121 @@
-use Prim.Native.Nat.{ℕ, _-_}
+use Prim.Native.Nat.{ℕ, _-_, _≤_, _<_, _*_}
 use mathlib.Core.List.{List}
-use mathlib.Core.Path.{refl, sym, ap, _∙_, subst}
+use mathlib.Core.Path.{_≡_, refl, sym, _∙_, subst}
 use mathlib.Core.Logic.{inr}
 use native.Mathlib.Omega.{arith}
-use lib.ListN.{set}
+use lib.ListN.{length, getD}
 use borrow.Author.Needs.{needs}
-use Rattle.pair_step.specs.Pairs.{bestIn, RowFits}
-use Rattle.plain_engine.specs.Planning.{takes, takenAt}
-use Rattle.steps.specs.Setting.{Setting, anchorOf, settingOf}
+use Rattle.rounds.specs.Rounds.{Within}
+use Rattle.rounds.specs.Table.{entry}
+use Rattle.pair_step.specs.Pairs.{EndsFit, RowFits, Greatest, stepFrom}
+use Rattle.steps.specs.Setting.{Setting, anchorOf, rowIn, stepOf, settingOf}
 use Rattle.steps.proofs.RowLaws.{tables-prepared, tables-row}
-use Rattle.steps.proofs.SettingLaws.{anchor-fits, ends-fit, row-fits, scores-fit}
+use Rattle.steps.proofs.SettingLaws.{anchor-fits, ends-fit, row-fits}
+use Rattle.read_order.specs.Order.{Among}
+use Rattle.read_order.proofs.InOrder.{first-low, first-more}
 use Rattle.plain_engine.proofs.take_anchor.Statement.{statement}
 use Rattle.plain_engine.proofs.take_anchor.Tie as tie
+use Rattle.plain_engine.proofs.take_anchor.Reads as reads
+use Rattle.plain_engine.proofs.take_anchor.Lts as lts
+use Rattle.plain_engine.proofs.look_back.Reads as look-back-reads
+use Rattle.steps.proofs.row.row_for.Reads as row-for-reads
 
 abbrev given : tie.Start → Setting
 given k = let a = k .args in settingOf (a .n) (a .k) (a .count) (a .lengths .now) (a .paths .now) (a .reach .now) (a .distance .now) (a .closed .now) (a .numbers .now) (a .us .now) (a .ys .now) (a .ds .now)
 
+-- the anchor that is taken is there, and so are its numbers; there are few
+next : (k : tie.Start) → let a = k .args in let j = getD (a .order .now) (a .taken) 0 in
+    Within (a .count) j × (5 * a .count ≤ length (a .numbers .now)) × (a .count ≤ 2048) × (a .taken < length (a .order .now)) × (a .count ≡ length (a .scores .now))
+next k =
+    let H = k .pre .0 .holds in
+    (k .pre .1 .0 .0 .there (k .args .taken) (k .pre .1 .0 .1), H .numberRoom, omega (arith, H .anchorsAre, H .goodAnchors .fewAnchors), omega (arith, k .pre .1 .0 .0 .size, k .pre .1 .0 .1), sym (k .pre .1 .1 .0 .size))
+
+mul-j : tie.Need-mul-j
+mul-j c = omega (arith, next (c .before .before .before .before .before .before .before .before .before .before .before .before))
+
+shared-slice-read-j : tie.Need-shared-slice-read-j
+shared-slice-read-j c = omega (arith, next (c .before .before .before .before .before .before .before .before .before .before .before .before .before))
+
+cast-j : tie.Need-cast-j
+cast-j c = let n = next (c .before .before .before .before .before .before .before .before .before .before .before .before .before) in omega (arith, n .0 .high, n .2)
+
 sub-at : tie.Need-sub-at
-sub-at c = search needs
+sub-at c = next (c .before .before .before .before .before .before .before .before .before .before .before .before .before) .0 .low
 
 mul-at : tie.Need-mul-at
-mul-at c = search needs
+mul-at c = let n = next (c .before .before .before .before .before .before .before .before .before .before .before .before .before) in omega (arith, n .0 .high, n .2)
 
 mul-v : tie.Need-mul-v
-mul-v c = search needs
+mul-v c = let n = next (c .before .before .before .before .before .before .before .before .before .before .before .before .before) in omega (arith, n .0 .high, n .2)
 
 shared-slice-read-v : tie.Need-shared-slice-read-v
-shared-slice-read-v c = search needs
-
-add-weight : tie.Need-add-weight
-add-weight c = search needs
-
-mul-weight : tie.Need-mul-weight
-mul-weight c = search needs
-
-shared-slice-read-weight : tie.Need-shared-slice-read-weight
-shared-slice-read-weight c = search needs
+shared-slice-read-v c = let n = next (c .before .before .before .before .before .before .before .before .before .before .before .before .before .before) in omega (arith, n .0 .low, n .0 .high, n .1)
 
 row-for-requires : tie.Need-row-for-requires
 row-for-requires c κs =
-    let k = c .before .before .before .before .before .before .before .before .before .before .before .before .before .before in
-    (tables-prepared (k .pre .0), (anchor-fits (k .pre .0 .holds) (k .args .j) (k .pre .1 .1 .0) .vertex, k .pre .1 .1 .1, k .pre .1 .1 .2))
+    let k = c .before .before .before .before .before .before .before .before .before .before .before .before .before .before .before in
+    (tables-prepared (k .pre .0), (anchor-fits (k .pre .0 .holds) (getD (k .args .order .now) (k .args .taken) 0) (next k .0) .vertex, k .pre .1 .1 .1 .0, k .pre .1 .1 .1 .1))
 
-add-best-of : tie.Need-add-best-of
-add-best-of c = search needs
+add-look-back : tie.Need-add-look-back
+add-look-back c = let n = next (c .before .before .before .before .before .before .before .before .before .before .before .before .before .before .before .before .before .before .before .before) in omega (arith, n .0 .high, n .2)
 
-mul-best-of : tie.Need-mul-best-of
-mul-best-of c = search needs
+mul-look-back : tie.Need-mul-look-back
+mul-look-back c = let n = next (c .before .before .before .before .before .before .before .before .before .before .before .before .before .before .before .before .before .before .before .before) in omega (arith, n .0 .high, n .2)
 
-shared-slice-read-best-of : tie.Need-shared-slice-read-best-of
-shared-slice-read-best-of c = search needs
+shared-slice-read-look-back : tie.Need-shared-slice-read-look-back
+shared-slice-read-look-back c = let n = next (c .before .before .before .before .before .before .before .before .before .before .before .before .before .before .before .before .before .before .before .before .before) in omega (arith, n .0 .high, n .2, n .0 .low, n .1)
 
-add-best-of-2 : tie.Need-add-best-of-2
-add-best-of-2 c = search needs
+add-look-back-2 : tie.Need-add-look-back-2
+add-look-back-2 c = let n = next (c .before .before .before .before .before .before .before .before .before .before .before .before .before .before .before .before .before .before .before .before .before) in omega (arith, n .0 .high, n .2)
 
-mul-best-of-2 : tie.Need-mul-best-of-2
-mul-best-of-2 c = search needs
+mul-look-back-2 : tie.Need-mul-look-back-2
+mul-look-back-2 c = let n = next (c .before .before .before .before .before .before .before .before .before .before .before .before .before .before .before .before .before .before .before .before .before) in omega (arith, n .0 .high, n .2)
 
-shared-slice-read-best-of-2 : tie.Need-shared-slice-read-best-of-2
-shared-slice-read-best-of-2 c = search needs
+shared-slice-read-look-back-2 : tie.Need-shared-slice-read-look-back-2
+shared-slice-read-look-back-2 c = let n = next (c .before .before .before .before .before .before .before .before .before .before .before .before .before .before .before .before .before .before .before .before .before .before) in omega (arith, n .0 .high, n .2, n .0 .low, n .1)
 
-best-of-requires : tie.Need-best-of-requires
-best-of-requires c κs =
-    let k = c .before .before .before .before .before .before .before .before .before .before .before .before .before .before .before .before .before .before .before .before .before in
+add-look-back-3 : tie.Need-add-look-back-3
+add-look-back-3 c = let n = next (c .before .before .before .before .before .before .before .before .before .before .before .before .before .before .before .before .before .before .before .before .before .before) in omega (arith, n .0 .high, n .2)
+
+mul-look-back-3 : tie.Need-mul-look-back-3
+mul-look-back-3 c = let n = next (c .before .before .before .before .before .before .before .before .before .before .before .before .before .before .before .before .before .before .before .before .before .before) in omega (arith, n .0 .high, n .2)
+
+shared-slice-read-look-back-3 : tie.Need-shared-slice-read-look-back-3
+shared-slice-read-look-back-3 c = let n = next (c .before .before .before .before .before .before .before .before .before .before .before .before .before .before .before .before .before .before .before .before .before .before .before) in omega (arith, n .0 .high, n .2, n .0 .low, n .1)
+
+look-back-requires : tie.Need-look-back-requires
+look-back-requires c κs =
+    let k = c .before .before .before .before .before .before .before .before .before .before .before .before .before .before .before .before .before .before .before .before .before .before .before in
     let a = k .args in
     let s = given k in
     let H = k .pre .0 .holds in
-    let w = k .pre .1 .1 .0 in
-    let f = anchor-fits H (a .j) w in
-    let e = c .before .before .before .before .before .before .row-for .ensures ∙ tables-row s (anchorOf s (a .j) .v) in (
-      ends-fit H,
+    let j = getD (a .order .now) (a .taken) 0 in
+    let w = next k .0 in
+    let f = anchor-fits H j w in
+    let z = next k .4 in
+    let e = c .before .before .before .before .before .before .before .row-for .ensures ∙ tables-row s (anchorOf s j .v) in (
+      subst (λ (m : ℕ). EndsFit m (s .ends)) z (ends-fit H),
       (
-        subst (λ (t : List ℕ). RowFits (a .count) (s .ends) t) (sym e) (row-fits H (anchorOf s (a .j) .v) (f .vertex) (a .j) w refl),
-        (scores-fit H (a .scores .now) (k .pre .1 .0), (f .x .high, f .c .high, f .x .low, f .weight .high)),
+        subst (λ (t : List ℕ). RowFits (length (a .scores .now)) (s .ends) t) (sym e) (subst (λ (m : ℕ). RowFits m (s .ends) (rowIn s (anchorOf s j .v))) z (row-fits H (anchorOf s j .v) (f .vertex) j w refl)),
+        (
+          record {
+            room = omega (arith, next k .3);
+            there = λ q l. subst (λ (m : ℕ). Within m (getD (a .order .now) q 0)) z (k .pre .1 .0 .0 .there q (omega (arith, k .pre .1 .0 .1)));
+            small = λ q l. first-low (k .pre .1 .0 .0) (k .pre .1 .1 .0) (k .pre .0) q l (omega (arith, k .pre .1 .0 .1));
+          },
+          (f .x .high, f .c .high, f .x .low, f .weight .high),
+        ),
       ),
     )
 
 sub-scores : tie.Need-sub-scores
-sub-scores c = omega (arith, c .before .before .before .before .before .before .before .before .before .before .before .before .before .before .before .before .before .before .before .before .before .before .pre .1 .1 .0 .low)
+sub-scores c = next (c .before .before .before .before .before .before .before .before .before .before .before .before .before .before .before .before .before .before .before .before .before .before .before .before) .0 .low
 
 mul-scores : tie.Need-mul-scores
-mul-scores c = omega (arith, c .before .before .before .before .before .before .before .before .before .before .before .before .before .before .before .before .before .before .before .before .before .before .pre .1 .1 .0 .high, c .before .before .before .before .before .before .before .before .before .before .before .before .before .before .before .before .before .before .before .before .before .before .pre .0 .holds .goodAnchors .fewAnchors, c .before .before .before .before .before .before .before .before .before .before .before .before .before .before .before .before .before .before .before .before .before .before .pre .0 .holds .anchorsAre)
+mul-scores c = let n = next (c .before .before .before .before .before .before .before .before .before .before .before .before .before .before .before .before .before .before .before .before .before .before .before .before) in omega (arith, n .0 .high, n .2)
 
 slice-write-scores : tie.Need-slice-write-scores
-slice-write-scores c = omega (arith, c .before .before .before .before .before .before .before .before .before .before .before .before .before .before .before .before .before .before .before .before .before .before .pre .1 .1 .0 .low, c .before .before .before .before .before .before .before .before .before .before .before .before .before .before .before .before .before .before .before .before .before .before .pre .1 .1 .0 .high, c .before .before .before .before .before .before .before .before .before .before .before .before .before .before .before .before .before .before .before .before .before .before .pre .1 .0 .size)
+slice-write-scores c = let n = next (c .before .before .before .before .before .before .before .before .before .before .before .before .before .before .before .before .before .before .before .before .before .before .before .before) in omega (arith, n .0 .low, n .0 .high, n .4)
 
 same-length : tie.Need-same-length
 same-length c = search needs
@@ -92,16 +124,16 @@ same-length-2 : tie.Need-same-length-2
 same-length-2 c = search needs
 
 returns : tie.Need-returns
-unfolding takes takenAt
+unfolding stepOf
 returns c =
-    let k = c .before .before .before .before .before .before .before .before .before .before .before .before .before .before .before .before .before .before .before .before .before .before in
+    let k = c .before .before .before .before .before .before .before .before .before .before .before .before .before .before .before .before .before .before .before .before .before .before .before .before in
     let a = k .args in
     let s = given k in
-    let r = c .before .before .before .before .before .before .before .row-for in
-    let e = r .ensures ∙ tables-row s (anchorOf s (a .j) .v) in (
-      ap (λ (t : ℕ). set (a .scores .now) (a .j - 1) t)
-          (c .best-of .ensures
-          ∙ ap (λ (t : List ℕ). bestIn (s .ends) (a .scores .now) t (anchorOf s (a .j) .weight) (anchorOf s (a .j) .v) (anchorOf s (a .j) .x) (anchorOf s (a .j) .c) (anchorOf s (a .j) .weight) (a .count)) e),
+    let j = getD (a .order .now) (a .taken) 0 in
+    let r = c .before .before .before .before .before .before .before .before .row-for in
+    let e = r .ensures ∙ tables-row s (anchorOf s j .v) in (
+      first-more (k .pre .1 .0 .0) (k .pre .1 .1 .0) (k .pre .1 .0 .1)
+          (subst (λ (t : List ℕ). Greatest (anchorOf s j .weight) (anchorOf s j .weight) (stepFrom (s .ends) t (anchorOf s j .v) (anchorOf s j .x) (anchorOf s j .c)) (λ i. entry i (a .scores .now)) (Among (a .order .now) (a .taken)) (c .look-back .result)) e (c .look-back .ensures)),
       inr (r .ensures),
     )
 
@@ -109,21 +141,24 @@ pub take-anchor-spec : {M : Type 1} → statement M
 take-anchor-spec =
     tie.close
     (tie.spec
+    mul-j
+    shared-slice-read-j
+    cast-j
     sub-at
     mul-at
     mul-v
     shared-slice-read-v
-    add-weight
-    mul-weight
-    shared-slice-read-weight
     row-for-requires
-    add-best-of
-    mul-best-of
-    shared-slice-read-best-of
-    add-best-of-2
-    mul-best-of-2
-    shared-slice-read-best-of-2
-    best-of-requires
+    add-look-back
+    mul-look-back
+    shared-slice-read-look-back
+    add-look-back-2
+    mul-look-back-2
+    shared-slice-read-look-back-2
+    add-look-back-3
+    mul-look-back-3
+    shared-slice-read-look-back-3
+    look-back-requires
     sub-scores
     mul-scores
     slice-write-scores

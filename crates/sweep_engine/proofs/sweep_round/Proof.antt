@@ -14,7 +14,7 @@ use Rattle.sweep_engine.proofs.sweep_round.Tie as tie
 use Rattle.sweep_engine.proofs.sweep_round.Reads as reads
 use Rattle.sweep_engine.proofs.sweep_round.Lts as lts
 use Rattle.steps.proofs.row.row_for.Reads as row-for-reads
-use Rattle.pair_step.proofs.step.best_of.Reads as best-of-reads
+use Rattle.sweep_engine.proofs.best_of.Reads as best-of-reads
 
 abbrev Inv-loop : tie.InvT-loop
 Inv-loop scores₀ row₀ n k count lengths paths reach distance closed numbers us ys ds changed₀ stands₀ j₀ scores row changed stands j =

@@ -1,19 +1,18 @@
-use Prim.Native.Nat.{ℕ, _+_, _-_, _*_, _≤_}
-use mathlib.Core.Path.{_≡_, refl, sym, ap, _∙_}
+use Prim.Native.Nat.{ℕ, _+_, _-_, _*_}
+use mathlib.Core.Path.{refl, sym, ap}
 use mathlib.Core.List.{List, [], _++_, append-nil}
 use native.Mathlib.Omega.{arith}
-use lib.ListN.{length, take, length-append, length-drop}
+use lib.ListN.{length, take, length-drop}
 use lib.Seq.{length-take-le}
-use borrow.Rule.Slice.PartMut.{midOf, putMid}
+use borrow.Rule.Slice.PartMut.{putMid}
 use Rattle.wire.specs.Numbers.{encode}
-use Rattle.wire.specs.Sizes.{anchorKind}
 use Rattle.wire.proofs.Rest.{rest-part}
 use Rattle.graph.specs.Encode.{encodeNumbers}
 use Rattle.graph_bytes.proofs.Along.{Along, along-as, along-fits, along-room, along-long, along-more, along-done}
 use Rattle.anchors.specs.Anchors.{perAnchor}
 use Rattle.anchors.specs.AnchorBytes.{encodeAnchors}
 use Rattle.anchors.specs.AnchorEntries.{AnchorsGiven}
-use Rattle.anchors_content.specs.InPlaces.{setIn, sizeIn}
+use Rattle.anchors.specs.AnchorEntries.{setIn}
 use Rattle.anchors_content.proofs.Sizing.{kind-along, bytes-length}
 use borrow.Author.Needs.{needs}
 use Rattle.anchors_content.proofs.bytes.put_anchors.Statement.{statement}

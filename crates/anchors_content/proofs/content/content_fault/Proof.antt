@@ -1,16 +1,18 @@
-use Prim.Native.Nat.{ℕ, _-_, _≤_}
+use Prim.Native.Nat.{ℕ, _≤_}
 use mathlib.Core.Path.{_≡_, sym, ap, _∙_}
 use native.Mathlib.Omega.{arith}
 use lib.ListN.{length, take}
+use Rattle.wire.specs.Found.{refusalNumber}
 use Rattle.wire.specs.Sizes.{mostRead, mostAnchors, fullLengths}
 use Rattle.graph.proofs.Kept.{range-kept}
 use Rattle.graph_content.specs.Faults.{lettersFault}
 use Rattle.graph_content.proofs.Encoded.{left-all}
 use Rattle.anchors.specs.AnchorRules.{noAnchor}
-use Rattle.anchors.specs.AnchorEntries.{AnchorsGiven}
+use Rattle.anchors.specs.AnchorEntries.{AnchorsGiven, anchorsGiven}
 use Rattle.anchors_parts.specs.LabelTables.{contentOf}
 use Rattle.anchors_parts.proofs.LabelLaws.{few-vertices, length-zeros, tables-made}
 use Rattle.anchors_content.specs.FirstFaults.{eachFault}
+use Rattle.anchors_content.proofs.Giving.{contentFault, content-told}
 use Rattle.anchors_content.proofs.ContentSteps.{content-read, content-letters, content-count, content-each}
 use borrow.Author.Needs.{needs}
 use Rattle.anchors_content.proofs.content.content_fault.Statement.{statement}
@@ -30,6 +32,14 @@ given s = record { r = s .args .r; n = s .args .n; buffers = record { letters = 
 
 abbrev start : tie.After-letters-fault → tie.Start
 start k = k .before .before .before .before .before .before .before
+
+-- the first fault is what the contract speaks of: each number fits 32 bits
+told : (k : tie.After-range-fault)
+    → contentFault (contentOf (k .before .before .before .before .args .graph .now)) (given (k .before .before .before .before))
+    ≡ refusalNumber (anchorsGiven (contentOf (k .before .before .before .before .args .graph .now)) (given (k .before .before .before .before)))
+told k =
+    let s = k .before .before .before .before in
+    sym (content-told (contentOf (s .args .graph .now)) (given s) (s .fits .r .fits) (s .fits .n .fits) (λ i. k .before .shared-slice-known3 .given i .fits))
 
 -- the letters' fault
 lettered : (k : tie.After-letters-fault) → k .letters-fault .result ≡ lettersFault (start k .args .r) (start k .args .letters .now) 0
@@ -51,6 +61,7 @@ returns : tie.Need-returns
 returns c =
     let s = c .before .before .before .before .before in
     sym (content-read (contentOf (s .args .graph .now)) (given s) _ (c .before .range-fault .ensures) (c .if1 .taken))
+    ∙ told (c .before)
 
 wide-requires : tie.Need-wide-requires
 wide-requires c κs = search needs
@@ -63,6 +74,7 @@ returns-2 c =
     let k = c .before in
     let r = k .before .before in
     sym (content-letters (contentOf (start k .args .graph .now)) (given (start k)) _ (r .before .range-fault .ensures) (r .if1 .left) _ (lettered k) (c .if2 .taken))
+    ∙ told (r .before)
 
 range-fault-requires-2 : tie.Need-range-fault-requires-2
 range-fault-requires-2 c κs = search needs
@@ -72,6 +84,7 @@ returns-3 c =
     let k = c .before .before .before in
     let r = k .before .before in
     sym (content-count (contentOf (start k .args .graph .now)) (given (start k)) _ (r .before .range-fault .ensures) (r .if1 .left) _ (lettered k) (c .before .before .if2 .left) _ (c .before .range-fault2 .ensures) (c .if3 .taken))
+    ∙ told (r .before)
 
 label-table-requires : tie.Need-label-table-requires
 label-table-requires c κs = search needs
@@ -121,6 +134,7 @@ returns-4 c =
     ∙ ap (λ (n : ℕ). eachFault (contentOf (s .args .graph .now)) (take (s .args .r) (s .args .letters .now)) n 0 noAnchor (s .args .anchors .now)) (w .wide2 .ensures)
     ∙ sym (content-each (contentOf (s .args .graph .now)) (given s) _ (r .before .range-fault .ensures) (r .if1 .left) _ (lettered k) (j .before .before .if2 .left) _ (j .before .range-fault2 .ensures) (j .if3 .left)
     (omega (arith, few-read r)))
+    ∙ told (r .before)
 
 pub content-fault-spec : {M : Type 1} → statement M
 content-fault-spec =

@@ -1,16 +1,15 @@
 use Rattle.wire.specs.Sizes.{mostLetters}
 use borrow.Rule.Slice.PartMut.{putMid}
-use native.Mathlib.Numerals.{unary-clauses}
 use Prim.Native.Nat.{ℕ, _+_, _-_, _≤_}
-use mathlib.Core.Path.{_≡_, refl, ap, sym, _∙_}
+use mathlib.Core.Path.{_≡_, ap, sym, _∙_}
 use mathlib.Core.List.{List, _++_}
-use lib.ListN.{length, getD, take, drop, length-append, length-drop}
+use lib.ListN.{length, getD, take, drop, length-drop}
 use borrow.Rule.Slice.PartMut.{midOf}
 use Rattle.wire.specs.Numbers.{encode}
 use Rattle.wire.specs.Lent.{front}
 use Rattle.wire.proofs.Rest.{rest-part}
 use Rattle.graph.specs.Encode.{encodeLabels}
-use Rattle.graph_content.specs.Used.{numbersIn, labelsIn}
+use Rattle.graph.specs.Entries.{numbersIn, labelsIn}
 use Rattle.graph_content.specs.Faults.{labelsFault}
 use Rattle.graph_bytes.proofs.Along.{Along, along-none, along-as, along-fits, along-long, along-more, along-done}
 use Rattle.graph_content.proofs.Encoded.{left-all, labels-next, labels-end, length-numbers, numbers-between}

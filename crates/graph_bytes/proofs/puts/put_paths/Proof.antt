@@ -1,5 +1,5 @@
 use Prim.Native.Nat.{ℕ, _+_, _-_, _*_, _≤_}
-use mathlib.Core.Path.{_≡_, refl, ap, sym, _∙_}
+use mathlib.Core.Path.{_≡_, ap, sym, _∙_}
 use mathlib.Core.List.{List, _++_}
 use lib.ListN.{length, getD, take, drop, length-drop}
 use borrow.Rule.Slice.PartMut.{midOf, putMid}
@@ -8,7 +8,7 @@ use Rattle.wire.specs.Sizes.{pathRoom, fullPaths}
 use Rattle.wire.specs.Lent.{front}
 use Rattle.wire.proofs.Rest.{rest-part}
 use Rattle.graph.specs.Encode.{encodeNumbers, encodePaths}
-use Rattle.graph_content.specs.Used.{numbersIn, pathsIn}
+use Rattle.graph.specs.Entries.{numbersIn, pathsIn}
 use Rattle.graph_bytes.proofs.Along.{Along, along-none, along-as, along-fits, along-long, along-more, along-done}
 use Rattle.graph_content.proofs.Encoded.{left-all, paths-next, paths-end, numbers-between}
 use native.Mathlib.Omega.{arith}

@@ -2,16 +2,14 @@ use Rattle.wire.specs.Numbers.{encode}
 use mathlib.Core.Path.{_∙_}
 use Prim.Native.Nat.{ℕ}
 use mathlib.Core.List.{List}
-use lib.ListN.{take, drop}
 use Rattle.wire.specs.Sizes.{pathRoom}
-use Rattle.graph_content.specs.Used.{numbersIn}
+use Rattle.graph.specs.Entries.{numbersIn, pathsIn}
 use Prim.Native.Nat.{_+_, _-_, _*_, _≤_}
-use mathlib.Core.Path.{_≡_, refl, ap}
+use mathlib.Core.Path.{_≡_, ap}
 use lib.ListN.{length, getD, length-append}
 use Rattle.wire.proofs.Encoding.{encode-most}
 use native.Mathlib.Numerals.{unary-clauses}
 use Rattle.graph.specs.Encode.{encodePaths, encodeNumbers}
-use Rattle.graph_content.specs.Used.{pathsIn}
 use Rattle.graph_content.proofs.Encoded.{numbers-between, numbers-most, length-numbers, paths-next, paths-end}
 use native.Mathlib.Omega.{arith}
 use borrow.Author.Needs.{needs}

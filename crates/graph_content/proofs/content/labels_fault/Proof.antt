@@ -1,8 +1,9 @@
 use Prim.Native.Nat.{ℕ, _-_, _+_, _≤_}
-use mathlib.Core.Path.{_≡_, refl, sym, ap, ap₂, _∙_}
+use mathlib.Core.Path.{_≡_, sym, ap, ap₂, _∙_}
 use lib.ListN.{getD}
+use Rattle.wire.specs.Found.{first}
 use Rattle.wire.specs.Sizes.{mostLetters}
-use Rattle.graph_content.specs.Faults.{first, lettersFault, labelsFault}
+use Rattle.graph_content.specs.Faults.{lettersFault, labelsFault}
 use Rattle.graph_content.proofs.Encoded.{left-all}
 use Rattle.graph_content.proofs.Faulting.{first-bad, first-none, within, labels-step, labels-over}
 use native.Mathlib.Omega.{arith}

@@ -1,9 +1,10 @@
 use Prim.Native.Nat.{ℕ, _+_, _-_, _*_, _≤_}
-use mathlib.Core.Path.{_≡_, refl, sym, ap, _∙_}
+use mathlib.Core.Path.{_≡_, sym, ap, _∙_}
 use lib.ListN.{getD}
+use Rattle.wire.specs.Found.{first}
 use Rattle.wire.specs.Sizes.{pathRoom}
-use Rattle.graph_content.specs.Used.{edgesIn}
-use Rattle.graph_content.specs.Faults.{first, verticesFault, pathsFault}
+use Rattle.graph.specs.Entries.{edgesIn}
+use Rattle.graph_content.specs.Faults.{verticesFault, pathsFault}
 use Rattle.graph_content.proofs.Encoded.{left-all}
 use Rattle.graph_content.proofs.Faulting.{first-bad, first-none, within, paths-step, paths-over}
 use native.Mathlib.Omega.{arith}

@@ -1,13 +1,11 @@
-use mathlib.Core.Path.{_≡_, refl, sym, ap, subst, _∙_}
+use mathlib.Core.Path.{_≡_, sym, ap, subst, _∙_}
 use mathlib.Core.Bool.{Bool}
 use native.Mathlib.Omega.{arith}
 use Prim.Native.Nat.{ℕ}
-use lib.ListN.{length}
 use Rattle.wire.specs.Cases.{pick}
 use Rattle.wire.specs.Refusals.{onNoPath}
 use Rattle.graph.specs.Rules.{coverFault, allOn}
-use Rattle.graph_paths.specs.Marks.{allMarked}
-use Rattle.graph_content.specs.Used.{pathsIn}
+use Rattle.graph.specs.Entries.{pathsIn}
 use Rattle.graph_content.specs.Flags.{Inside}
 use Rattle.graph_content.proofs.Flagging.{all-on}
 use borrow.Author.Needs.{needs}

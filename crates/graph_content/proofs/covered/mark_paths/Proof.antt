@@ -1,10 +1,10 @@
 use Prim.Native.Nat.{ℕ, _+_, _-_, _*_, _≤_}
-use mathlib.Core.Path.{_≡_, sym, ap, subst, _∙_}
+use mathlib.Core.Path.{_≡_, sym, subst}
 use mathlib.Core.List.{List}
 use lib.ListN.{length, getD, take, drop}
 use Rattle.wire.specs.Sizes.{pathRoom}
 use Rattle.graph.specs.Rules.{isOn, isOnAny}
-use Rattle.graph_content.specs.Used.{numbersIn, pathsIn}
+use Rattle.graph.specs.Entries.{numbersIn, pathsIn}
 use Rattle.graph_content.specs.Flags.{Flagged, Vertices}
 use Rattle.graph_content.proofs.Encoded.{numbers-between}
 use Rattle.graph_content.proofs.Flagging.{Onward, onward-none, onward-path, onward-done, any-all, any-none, path-vertices}

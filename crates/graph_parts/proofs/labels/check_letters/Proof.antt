@@ -1,5 +1,5 @@
 use Prim.Native.Nat.{ℕ, _+_}
-use mathlib.Core.Path.{_≡_, refl, sym, ap, _∙_}
+use mathlib.Core.Path.{_≡_, refl, sym, ap, ap₂, _∙_}
 use native.Mathlib.Omega.{arith}
 use borrow.Author.Needs.{needs}
 use Rattle.wire.specs.declared.numbers.Number.the-variants.{Value, Fault}
@@ -41,7 +41,7 @@ returns-2 c =
     let k = c .before .before .before .before .before in
     let a = k .before .before .args in
     let r = c .before .letter-fault .ensures in
-    ap (λ (j : ℕ). Fault j (k .loop .at)) r
+    ap₂ (λ (j p : ℕ). Fault j p) r (omega arith)
     ∙ sym (k .loop .inv .0 ∙ ap (lettersAnswer (a .len) (a .cursor .at + a .len))
     (letters-bad (k .loop .left) (a .file .now) (k .loop .at) (omega arith) (omega arith) (λ z. c .if2 .taken (r ∙ z))))
 

@@ -1,2 +1,0 @@
--- The definitions of the listing program.
-pub mod Files

@@ -1,0 +1,2 @@
+-- The definitions of loading files.
+pub mod Files

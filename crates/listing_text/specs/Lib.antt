@@ -1,0 +1,3 @@
+-- The definitions of the lines.
+pub mod Decimal
+pub mod Lines

@@ -1,0 +1,2 @@
+-- The definitions of the anchors in read order.
+pub mod Order
