@@ -15,7 +15,7 @@ use Rattle.wire.specs.Sizes.{anchorKind, mostFileBytes, mostRead, mostAnchors}
 use Rattle.wire.specs.declared.numbers.Cursor.{Cursor}
 use Rattle.wire.specs.declared.numbers.Number.the-variants.{Value}
 use Rattle.wire.proofs.NumberLaws.{Bytes, number-value, number-within}
-use Rattle.wire.proofs.Finding.{then-good, number-good, refuse-good, good-same}
+use Rattle.wire.proofs.Finding.{refuse-good, on-then, on-number, on-refuse, good-same}
 use Rattle.graph.specs.Content.{Graph}
 use Rattle.graph.specs.Good.{All, Next}
 use Rattle.graph.specs.Encode.{encodeNumbers}
@@ -160,17 +160,16 @@ parts-from g s q kind a r b read n c p kindIs isKind lengthIs keptR readIs count
 pub whole-parts : (g : Graph) (s : List ℕ) (q : ParsedAnchors) → wholeAnchors g s ≡ good q → AnchorParts g s q
 unfolding wholeAnchors
 whole-parts g s q e =
-    let e2 = number-good s 0 _ q e in
-    let e3 = refuse-good (pick (eqb (e2 .0) anchorKind) 0 wrongKind) 0 _ q (e2 .3) in
-    let e4 = number-good s (e2 .1 .at) _ q (e3 .1) in
-    let e5 = refuse-good (readFault (e4 .0)) (e2 .1 .at) _ q (e4 .3) in
-    let e6 = then-good (lettersFrom (e4 .0) s (e4 .1 .at)) _ q (e5 .1) in
-    let e7 = number-good s (e4 .1 .at + e4 .0) _ q (e6 .2) in
-    let e8 = refuse-good (anchorCountFault (e7 .0)) (e4 .1 .at + e4 .0) _ q (e7 .3) in
-    let e9 = then-good (anchorsFrom g (e6 .0) (e7 .0) noAnchor s (e7 .1 .at)) _ q (e8 .1) in
-    let e10 = refuse-good (pick (eqb (e9 .0 .next) (length s)) 0 leftOver) (e9 .0 .next) _ q (e9 .2) in
-    parts-from g s q (e2 .0) (e2 .1) (e4 .0) (e4 .1) (e6 .0) (e7 .0) (e7 .1) (e9 .0)
-    (e2 .2) (e3 .0) (e4 .2) (e5 .0) (e6 .1) (e7 .2) (e8 .0) (e9 .1) (e10 .0) (good-same _ q (e10 .1))
+    on-number s 0 _ q e (λ kind a kindIs e1.
+    on-refuse (pick (eqb kind anchorKind) 0 wrongKind) 0 _ q e1 (λ isKind e2.
+    on-number s (a .at) _ q e2 (λ r b lengthIs e3.
+    on-refuse (readFault r) (a .at) _ q e3 (λ keptR e4.
+    on-then (lettersFrom r s (b .at)) _ q e4 (λ read readIs e5.
+    on-number s (b .at + r) _ q e5 (λ n c countIs e6.
+    on-refuse (anchorCountFault n) (b .at + r) _ q e6 (λ keptN e7.
+    on-then (anchorsFrom g read n noAnchor s (c .at)) _ q e7 (λ p anchorsIs e8.
+    on-refuse (pick (eqb (p .next) (length s)) 0 leftOver) (p .next) _ q e8 (λ ends e9.
+    parts-from g s q kind a r b read n c p kindIs isKind lengthIs keptR readIs countIs keptN anchorsIs ends (good-same _ q e9))))))))))
 
 -- an accepted file is not too long
 pub not-long : (g : Graph) (s : List ℕ) (q : ParsedAnchors) → anchorsOf g s ≡ good q → (length s ≤ mostFileBytes) × (wholeAnchors g s ≡ good q)

@@ -9,12 +9,14 @@ use lib.ListN.{length, getD, take, drop, length-append}
 use lib.Seq.{drop-cons, drop-drop, getD-drop, take-append-add, take-append-seam}
 use Rattle.graph.specs.Entries.{numbersIn}
 use Rattle.wire.specs.Found.{Found, good, fault, asContent}
+use Rattle.wire.specs.Numbers.{encode}
+use Rattle.wire.specs.Sizes.{anchorKind}
 use Rattle.graph.specs.Content.{Graph}
 use Rattle.graph.specs.Good.{GoodGraph}
 use Rattle.graph.proofs.Rereading.{here}
 use Rattle.graph.proofs.Givens.{length-numbers, numbers-part}
 use Rattle.anchors.specs.Anchors.{Anchor, AnchorSet, numbersOf, perAnchor, anchorNumbers, readLength, anchorCount}
-use Rattle.anchors.specs.AnchorBytes.{encodeAnchors}
+use Rattle.anchors.specs.AnchorBytes.{encodeEach, encodeAnchors}
 use Rattle.anchors.specs.AnchorReading.{ParsedAnchors, wholeAnchors}
 use Rattle.anchors.specs.GoodAnchors.{GoodAnchors}
 use Rattle.anchors.specs.AnchorEntries.{AnchorsGiven, anchorIn, anchorsIn, setIn, anchorsGiven}
@@ -34,6 +36,15 @@ pub length-anchors : (left i : ℕ) (numbers : List ℕ) → length (anchorsIn l
 unfolding anchorsIn
 length-anchors zero i numbers = refl
 length-anchors (suc left) i numbers = ap suc (length-anchors left (i + 1) numbers)
+
+-- the bytes of the content: the kind, r, the read, N, the anchors
+pub set-bytes : (c : AnchorsGiven)
+    → encodeAnchors (setIn c)
+    ≡ encode anchorKind
+    ++ (encode (c .r)
+    ++ (numbersIn (c .r) 0 (c .buffers .letters) ++ (encode (c .n) ++ encodeEach (anchorsIn (c .n) 0 (c .buffers .anchors)))))
+unfolding encodeAnchors
+set-bytes c = simp (length-numbers (c .r) 0 (c .buffers .letters), length-anchors (c .n) 0 (c .buffers .anchors))
 
 next-place : (i : ℕ) → perAnchor * (i + 1) ≡ perAnchor * i + perAnchor
 next-place i = omega arith

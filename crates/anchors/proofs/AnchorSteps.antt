@@ -1,7 +1,7 @@
 -- What was found of the anchors was found of the first one and of the rest: the steps of the definitions of reading.
 -- Assumes nothing.
 use Prim.Native.Nat.{ℕ, suc, _≤_, _<_}
-use mathlib.Core.Path.{_≡_, sym, ap, _∙_}
+use mathlib.Core.Path.{_≡_, refl, sym, ap, _∙_, subst}
 use mathlib.Core.List.{List, [], _∷_}
 use native.Mathlib.Omega.{arith}
 use lib.ListN.{length}
@@ -10,7 +10,7 @@ use Rattle.wire.specs.Numbers.{numberAt}
 use Rattle.wire.specs.declared.numbers.Cursor.{Cursor}
 use Rattle.wire.specs.declared.numbers.Number.the-variants.{Value}
 use Rattle.wire.proofs.NumberLaws.{number-within}
-use Rattle.wire.proofs.Finding.{then-good, number-good, refuse-good}
+use Rattle.wire.proofs.Finding.{then-good, refuse-good, on-number, good-same}
 use Rattle.graph.specs.Content.{Graph}
 use Rattle.anchors.specs.Anchors.{Anchor}
 use Rattle.anchors.specs.AnchorRules.{anchorFault, faultPlace}
@@ -31,29 +31,41 @@ pub record NumbersStep (s : List ℕ) (at : ℕ) (a : Numbers) : Type 0 where
   pub weightAt : a .weightAt ≡ lenEnd .at
   pub next : a .next ≡ weightEnd .at
 
+-- the steps, from what was found of each number
+numbers-from : (s : List ℕ) (at : ℕ) (a : Numbers) (v x c len weight : ℕ) (p q r t u : Cursor)
+    → numberAt s at ≡ Value v p
+    → numberAt s (p .at) ≡ Value x q
+    → numberAt s (q .at) ≡ Value c r
+    → numberAt s (r .at) ≡ Value len t
+    → numberAt s (t .at) ≡ Value weight u
+    → record { anchor = record { v = v; x = x; c = c; len = len; weight = weight }; weightAt = t .at; next = u .at } ≡ a
+    → NumbersStep s at a
+numbers-from s at a v x c len weight p q r t u vIs xIs cIs lenIs weightIs e =
+    subst (NumbersStep s at) e
+    (record {
+      vEnd = p;
+      xEnd = q;
+      cEnd = r;
+      lenEnd = t;
+      weightEnd = u;
+      vIs = vIs;
+      xIs = xIs;
+      cIs = cIs;
+      lenIs = lenIs;
+      weightIs = weightIs;
+      weightAt = refl;
+      next = refl;
+    })
+
 pub numbers-step : (s : List ℕ) (at : ℕ) (a : Numbers) → numbersAt s at ≡ good a → NumbersStep s at a
 unfolding numbersAt
 numbers-step s at a e =
-    let v = number-good s at _ a e in
-    let x = number-good s (v .1 .at) _ a (v .3) in
-    let c = number-good s (x .1 .at) _ a (x .3) in
-    let l = number-good s (c .1 .at) _ a (c .3) in
-    let w = number-good s (l .1 .at) _ a (l .3) in
-    let q : record { anchor = record { v = v .0; x = x .0; c = c .0; len = l .0; weight = w .0 }; weightAt = l .1 .at; next = w .1 .at } ≡ a = cc in
-    record {
-      vEnd = v .1;
-      xEnd = x .1;
-      cEnd = c .1;
-      lenEnd = l .1;
-      weightEnd = w .1;
-      vIs = v .2 ∙ ap (λ (n : Numbers). Value (n .anchor .v) (v .1)) q;
-      xIs = x .2 ∙ ap (λ (n : Numbers). Value (n .anchor .x) (x .1)) q;
-      cIs = c .2 ∙ ap (λ (n : Numbers). Value (n .anchor .c) (c .1)) q;
-      lenIs = l .2 ∙ ap (λ (n : Numbers). Value (n .anchor .len) (l .1)) q;
-      weightIs = w .2 ∙ ap (λ (n : Numbers). Value (n .anchor .weight) (w .1)) q;
-      weightAt = ap (λ (n : Numbers). n .weightAt) (sym q);
-      next = ap (λ (n : Numbers). n .next) (sym q);
-    }
+    on-number s at _ a e (λ v p vIs e1.
+    on-number s (p .at) _ a e1 (λ x q xIs e2.
+    on-number s (q .at) _ a e2 (λ c r cIs e3.
+    on-number s (r .at) _ a e3 (λ len t lenIs e4.
+    on-number s (t .at) _ a e4 (λ weight u weightIs e5.
+    numbers-from s at a v x c len weight p q r t u vIs xIs cIs lenIs weightIs (good-same _ a e5))))))
 
 -- an anchor takes at least a byte, and lies within the file
 pub numbers-within : (s : List ℕ) (at : ℕ) (a : Numbers) → numbersAt s at ≡ good a → (at < a .weightAt) × (a .weightAt < a .next) × (a .next ≤ length s)
@@ -87,7 +99,7 @@ module _ (g : Graph) (read : List ℕ) where
       let f : ℕ = anchorFault g read last (a .0 .anchor) in
       let b = refuse-good f (faultPlace f at (a .0 .weightAt)) _ r (a .2) in
       let c = then-good (anchorsFrom g read left (a .0 .anchor) s (a .0 .next)) _ r (b .1) in
-      let q : record { content = a .0 .anchor ∷ c .0 .content; next = c .0 .next } ≡ r = cc in
+      let q : record { content = a .0 .anchor ∷ c .0 .content; next = c .0 .next } ≡ r = good-same _ r (c .2) in
       record {
         first = a .0;
         firstIs = a .1;

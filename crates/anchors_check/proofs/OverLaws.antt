@@ -1,10 +1,11 @@
 -- The check of an anchor file over an accepted graph, section by section: what each number, rule or part that was read makes of it.
 -- Assumes nothing.
 use Prim.Native.Nat.{ℕ, _+_, _≤_, _<_}
-use mathlib.Core.Path.{_≡_, sym, ap, _∙_}
+use mathlib.Core.Path.{_≡_, refl, sym, ap, _∙_}
 use mathlib.Core.List.{List}
 use mathlib.Core.Bool.{Bool, true, false}
 use native.Mathlib.Omega.{arith}
+use native.Mathlib.Decide.{ℕ-discrete}
 use lib.ListN.{length, take, drop}
 use lib.Seq.{take-append-seam}
 use lib.Dec.{eqb}
@@ -24,6 +25,7 @@ use Rattle.graph.specs.Rules.{rangeFault}
 use Rattle.graph.specs.Reading.{lettersFrom}
 use Rattle.graph.proofs.Accepting.{LettersRead, letters-read}
 use Rattle.graph_parts.proofs.Passing.{count-on}
+use Rattle.anchors_head.specs.Head.{afterKind, headOf}
 use Rattle.anchors.specs.Anchors.{Anchor}
 use Rattle.anchors.specs.AnchorRules.{readFault, anchorCountFault, noAnchor}
 use Rattle.anchors.specs.AnchorReading.{ParsedAnchors, anchorsFrom, wholeAnchors, anchorsOf}
@@ -47,7 +49,7 @@ lettersOn g s r b =
     number s (b + r) (λ n c. refuse (anchorCountFault n) (b + r) (anchorsOn g s read b n c)))
 
 -- after the kind: r
-abbrev pub kindOn : Graph → List ℕ → ℕ → ℕ → Found ParsedAnchors
+abbrev kindOn : Graph → List ℕ → ℕ → ℕ → Found ParsedAnchors
 kindOn g s kind a =
     refuse (pick (eqb kind anchorKind) 0 wrongKind) 0
     (number s a (λ r b. refuse (readFault r) a (lettersOn g s r b)))
@@ -57,16 +59,19 @@ module _ (g : Graph) (s : List ℕ) where
   unfolding anchorsOf
   over-long h = simp (lt-leb (length s) mostFileBytes h)
 
-  pub over-first : length s ≤ mostFileBytes → anchorsOf g s ≡ number s 0 (kindOn g s)
-  unfolding anchorsOf wholeAnchors
-  over-first h = simp (le-leb (length s) mostFileBytes h)
+  -- after the first number
+  on-kind : (n : Number) → onNumber n (kindOn g s) ≡ onNumber (afterKind s n) (lettersOn g s)
+  on-kind (Value kind c) =
+      elim (ℕ-discrete kind anchorKind) [
+        | yes e ↦ simp (eq-eqb kind anchorKind e) (count-on 1 mostRead s (c .at) (lettersOn g s))
+        | no n ↦ simp (ne-eqb kind anchorKind n)
+      ]
+  on-kind (Fault k p) = refl
 
-  pub over-kind : (kind a : ℕ) → (kind ≡ anchorKind → ⊥) → kindOn g s kind a ≡ fault wrongKind 0
-  over-kind kind a n = simp (ne-eqb kind anchorKind n)
-
-  pub over-read : (kind a : ℕ) → kind ≡ anchorKind → kindOn g s kind a ≡ onNumber (countAt 1 mostRead s a) (lettersOn g s)
-  over-read kind a e =
-      simp (eq-eqb kind anchorKind e) (count-on 1 mostRead s a (lettersOn g s))
+  -- the file's head, then the letters
+  pub over-head : length s ≤ mostFileBytes → anchorsOf g s ≡ onNumber (headOf s) (lettersOn g s)
+  unfolding anchorsOf wholeAnchors headOf
+  over-head h = simp (le-leb (length s) mostFileBytes h) (on-kind (numberAt s 0))
 
   pub over-letters : (r b : ℕ) {read : List ℕ} → lettersFrom r s b ≡ good read
       → lettersOn g s r b ≡ onNumber (countAt 0 mostAnchors s (b + r)) (anchorsOn g s read b)
@@ -97,15 +102,15 @@ pub letters-part : (r : ℕ) (s : List ℕ) (at : ℕ) (l : List ℕ) → Letter
 letters-part r s at l h =
     ap (λ (k : ℕ). take k (drop at s)) (sym (h .count)) ∙ ap (take (length l)) (h .bytes) ∙ take-append-seam l (drop (at + r) s)
 
+pick-value : (b : Bool) (n : Number) (k p : ℕ) {x : ℕ} {c : Cursor} → pick b n (Fault k p) ≡ Value x c → n ≡ Value x c
+pick-value true n k p e = e
+pick-value false n k p e = let z : _≡_ {A = ℕ} 0 1 = cc in absurd (omega arith)
+
 -- a count that was read within its range is the number there
 count-value : (low high : ℕ) (s : List ℕ) (at : ℕ) {x : ℕ} {c : Cursor} → countAt low high s at ≡ Value x c → numberAt s at ≡ Value x c
 unfolding countAt
 count-value low high s at e = ranged-value low high at (numberAt s at) e
   where
-    pick-value : (b : Bool) (n : Number) (k p : ℕ) {x : ℕ} {c : Cursor} → pick b n (Fault k p) ≡ Value x c → n ≡ Value x c
-    pick-value true n k p e = e
-    pick-value false n k p e = let z : _≡_ {A = ℕ} 0 1 = cc in absurd (omega arith)
-
     ranged-value : (low high at : ℕ) (n : Number) {x : ℕ} {c : Cursor} → ranged low high at n ≡ Value x c → n ≡ Value x c
     ranged-value low high at (Value y d) e = pick-value (eqb (rangeFault low high y) 0) (Value y d) (rangeFault low high y) at e
     ranged-value low high at (Fault k p) e = e
@@ -114,8 +119,13 @@ count-value low high s at e = ranged-value low high at (numberAt s at) e
 pub count-next : (low high : ℕ) (s : List ℕ) (at : ℕ) {x : ℕ} {c : Cursor} → countAt low high s at ≡ Value x c → c .at ≤ length s
 count-next low high s at {x} {c} e = number-within s at x c (count-value low high s at e) .1
 
--- the r letters of the read, after a count of r
-pub letters-read-after : (s : List ℕ) (low high at : ℕ) {r : ℕ} {b : Cursor} → countAt low high s at ≡ Value r b
-    → (l : List ℕ) → lettersFrom r s (b .at) ≡ good l → LettersRead r s (b .at) l
-letters-read-after s low high at {r} {b} e l f =
-    letters-read r s (b .at) l (count-next low high s at e) f
+-- the place after the head is within the file
+head-next : (s : List ℕ) (n : Number) {r : ℕ} {b : Cursor} → afterKind s n ≡ Value r b → b .at ≤ length s
+head-next s (Value kind c) e = count-next 1 mostRead s (c .at) (pick-value (eqb kind anchorKind) (countAt 1 mostRead s (c .at)) wrongKind 0 e)
+head-next s (Fault k p) e = let z : _≡_ {A = ℕ} 0 1 = cc in absurd (omega arith)
+
+-- the r letters of the read, after the head
+pub letters-read-after : (s : List ℕ) {r : ℕ} {b : Cursor} → headOf s ≡ Value r b → (l : List ℕ) → lettersFrom r s (b .at) ≡ good l
+    → LettersRead r s (b .at) l
+unfolding headOf
+letters-read-after s {r} {b} e l f = letters-read r s (b .at) l (head-next s (numberAt s 0) e) f

@@ -1,5 +1,6 @@
 // The check of the anchor file: the definitions are in the crate anchors, and the check here decides without writing.
 
+use anchors_head::read_head;
 use anchors_parts::each::check_each;
 use anchors_parts::labels::label_places;
 use anchors_parts::labels::label_table;
@@ -7,18 +8,13 @@ use graph_check::Checked;
 use graph_check::check_graph;
 use graph_parts::counts::read_count;
 use graph_parts::labels::check_letters;
-use wire::numbers::Cursor;
 use wire::numbers::Number;
-use wire::numbers::read_number;
 use wire::refusals::ANCHOR_FILE;
 use wire::refusals::GRAPH_FILE;
 use wire::refusals::LEFT_OVER;
 use wire::refusals::OUT_OF_RANGE;
-use wire::refusals::WRONG_KIND;
-use wire::sizes::ANCHOR_KIND;
 use wire::sizes::MOST_ANCHORS;
 use wire::sizes::MOST_FILE_BYTES;
-use wire::sizes::MOST_READ;
 ghost use mathlib.Core.Path.{_≡_};
 ghost use Rattle.anchors.specs.AnchorReading.{anchorsOf};
 ghost use Rattle.anchors.specs.AnchorEntries.{bothReply};
@@ -69,16 +65,9 @@ pub fn check_over(
     if MOST_FILE_BYTES < file.len() {
         return CheckedAnchors::Fault(OUT_OF_RANGE, MOST_FILE_BYTES);
     }
-    let first = read_number(file, Cursor { at: 0 });
-    let Number::Value(kind, a) = first else {
-        return anchors_refused(first);
-    };
-    if kind != ANCHOR_KIND {
-        return CheckedAnchors::Fault(WRONG_KIND, 0);
-    }
-    let second = read_count(file, a, 1, MOST_READ);
-    let Number::Value(r, b) = second else {
-        return anchors_refused(second);
+    let head = read_head(file);
+    let Number::Value(r, b) = head else {
+        return anchors_refused(head);
     };
     let letters = check_letters(file, b, r);
     let Number::Value(_, c) = letters else {

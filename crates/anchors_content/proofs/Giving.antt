@@ -29,9 +29,9 @@ use Rattle.anchors.proofs.AnchorFaults.{ContentNumber, Ruled, range-ruled, lett
 use Rattle.graph.proofs.Givens.{length-numbers}
 use Rattle.graph.proofs.Rereading.{here}
 use Rattle.anchors.proofs.AnchorRereading.{Fitting, numbers-back}
+use Rattle.anchors.proofs.AnchorGiven.{set-bytes}
 use Rattle.anchors.proofs.AnchorWriting.{content-fault}
 use Rattle.anchors_content.specs.FirstFaults.{eachFault}
-use Rattle.anchors_content.proofs.Sizing.{set-bytes}
 
 -- the first fault of all the content, section after section
 unfoldable pub contentFault : Graph → AnchorsGiven → ℕ

@@ -1,5 +1,4 @@
--- The laws of the first fault, and of the encoding's bytes.
-pub mod Sizing
+-- The laws of the first fault.
 pub mod Giving
 pub mod EachSteps
 pub mod ContentSteps

@@ -1,3 +1,2 @@
--- The content that the anchor writer is given: its size, and the first fault of its anchors.
-pub mod InPlaces
+-- The first fault of the anchors that the writer is given.
 pub mod FirstFaults

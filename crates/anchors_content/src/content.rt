@@ -2,9 +2,9 @@
 use anchors::PER_ANCHOR;
 use anchors_parts::labels::label_places;
 use anchors_parts::labels::label_table;
-use anchors_parts::one::Five;
-use anchors_parts::one::key_below;
 use anchors_parts::one::own_fault;
+use anchors_rules::rules::Five;
+use anchors_rules::rules::key_below;
 use graph_content::content::letters_fault;
 use graph_content::wide;
 use graph_rules::rules::range_fault;
@@ -20,7 +20,7 @@ ghost use Rattle.anchors.specs.Anchors.{perAnchor};
 ghost use Rattle.anchors.specs.AnchorRules.{noAnchor};
 ghost use Rattle.anchors.specs.AnchorEntries.{anchorIn, anchorsGiven};
 ghost use Rattle.anchors_parts.specs.LabelTables.{LabelsAt, LabelTables, contentOf};
-ghost use Rattle.anchors_parts.specs.OneAnchor.{anchorOf};
+ghost use Rattle.anchors_rules.specs.OneAnchor.{anchorOf};
 ghost use Rattle.anchors_content.specs.FirstFaults.{eachFault};
 
 // Anchor i of the anchors' numbers, counted from 0.

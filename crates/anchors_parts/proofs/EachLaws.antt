@@ -16,8 +16,9 @@ use Rattle.graph_parts.proofs.Passing.{refuse-none, refuse-some, answered-more}
 use Rattle.anchors.specs.Anchors.{Anchor}
 use Rattle.anchors.specs.AnchorRules.{ownFault, keyBelow, anchorFault, faultPlace, noAnchor}
 use Rattle.anchors.specs.AnchorReading.{Numbers, numbersAt, anchorsFrom}
-use Rattle.anchors_parts.specs.OneAnchor.{anchorOf, fiveOf, readFiveOf, numbersAfter}
-use Rattle.anchors_parts.specs.declared.one.Five.{Five}
+use Rattle.anchors_rules.specs.OneAnchor.{anchorOf, fiveOf}
+use Rattle.anchors_rules.specs.declared.rules.Five.{Five}
+use Rattle.anchors_parts.specs.ReadAnchor.{readFiveOf, numbersAfter}
 use Rattle.anchors_parts.specs.declared.one.ReadFive.the-variants.{Got, Fault}
 use Rattle.anchors.proofs.AnchorSteps.{anchors-step}
 

@@ -1,81 +1,21 @@
--- One anchor: the steps of its order, of the comparison of its letters, and of its own faults.
+-- One anchor: its letters in the two files, and its own faults in their order.
 -- Assumes nothing.
-use Prim.Native.Nat.{ℕ, zero, suc, _+_, _-_, _≤_, _<_}
+use Prim.Native.Nat.{ℕ, zero, suc, _+_, _-_, _≤_}
 use mathlib.Core.Path.{_≡_, refl, sym, ap₂, _∙_}
 use mathlib.Core.List.{List}
-use mathlib.Core.Bool.{Bool, true, false, _||_}
+use mathlib.Core.Bool.{true, false}
 use native.Mathlib.Omega.{arith}
-use native.Mathlib.Numerals.{sub-one}
 use lib.ListN.{length, getD, take, drop, length-take, length-drop}
 use lib.Seq.{getD-drop, getD-take}
-use lib.Dec.{ltb}
-use borrow.Author.Tests.{le-ltb, eq-eqb, ne-eqb}
+use borrow.Author.Tests.{eq-eqb, ne-eqb}
 use Rattle.wire.specs.Cases.{pick}
-use Rattle.wire.specs.Letters.{agree}
 use Rattle.wire.specs.Refusals.{outOfRange, noVertex, outside, lettersDiffer}
 use Rattle.wire.specs.Sizes.{mostWeight}
 use Rattle.graph.specs.Content.{Graph, vertexCount}
 use Rattle.graph.specs.Rules.{rangeFault, isVertex}
-use Rattle.anchors.specs.Anchors.{Anchor, y}
-use Rattle.anchors.specs.AnchorRules.{labelOf, agreeFrom, lettersAgree, keyBelow, isInside, ownFault}
+use Rattle.anchors.specs.Anchors.{Anchor}
+use Rattle.anchors.specs.AnchorRules.{labelOf, agreeFrom, lettersAgree, isInside, ownFault}
 use Rattle.anchors.proofs.AnchorKept.{Inside}
-
--- ---- the order
-
-or-false : (b : Bool) → _||_ b false ≡ b
-or-false true = refl
-or-false false = refl
-
-module _ (a b : Anchor) where
-  pub key-v : (a .v ≡ b .v → ⊥) → keyBelow a b ≡ ltb (a .v) (b .v)
-  unfolding keyBelow
-  key-v n = simp (ne-eqb (a .v) (b .v) n, or-false)
-
-  pub key-x : a .v ≡ b .v → (a .x ≡ b .x → ⊥) → keyBelow a b ≡ ltb (a .x) (b .x)
-  unfolding keyBelow
-  key-x e n = simp (eq-eqb (a .v) (b .v) e, le-ltb (a .v) (b .v) (omega arith), ne-eqb (a .x) (b .x) n, or-false)
-
-  pub key-y : a .v ≡ b .v → a .x ≡ b .x → (y a ≡ y b → ⊥) → keyBelow a b ≡ ltb (y a) (y b)
-  unfolding keyBelow
-  key-y e f n =
-      simp (
-        eq-eqb (a .v) (b .v) e,
-        le-ltb (a .v) (b .v) (omega arith),
-        eq-eqb (a .x) (b .x) f,
-        le-ltb (a .x) (b .x) (omega arith),
-        ne-eqb (y a) (y b) n,
-        or-false,
-      )
-
-  pub key-c : a .v ≡ b .v → a .x ≡ b .x → y a ≡ y b → keyBelow a b ≡ ltb (a .c) (b .c)
-  unfolding keyBelow
-  key-c e f g =
-      simp (
-        eq-eqb (a .v) (b .v) e,
-        le-ltb (a .v) (b .v) (omega arith),
-        eq-eqb (a .x) (b .x) f,
-        le-ltb (a .x) (b .x) (omega arith),
-        eq-eqb (y a) (y b) g,
-        le-ltb (y a) (y b) (omega arith),
-      )
-
--- ---- the letters
-
-module _ (l : List ℕ) (i : ℕ) (r : List ℕ) (j : ℕ) where
-  pub agree-none : (k : ℕ) → k ≤ 0 → agreeFrom k l i r j ≡ true
-  unfolding agreeFrom
-  agree-none zero h = refl
-  agree-none (suc k) h = absurd (omega arith)
-
-  pub agree-not : (k : ℕ) → 0 < k → agree (getD l i 0) (getD r j 0) ≡ false → agreeFrom k l i r j ≡ false
-  unfolding agreeFrom
-  agree-not zero h e = absurd (omega arith)
-  agree-not (suc k) h e = simp e
-
-  pub agree-more : (k : ℕ) → 0 < k → agree (getD l i 0) (getD r j 0) ≡ true → agreeFrom k l i r j ≡ agreeFrom (k - 1) l (i + 1) r (j + 1)
-  unfolding agreeFrom
-  agree-more zero h e = absurd (omega arith)
-  agree-more (suc k) h e = simp (e, sub-one (suc k))
 
 -- the letters of two parts agree as those of the files do
 pub agree-parts : (k : ℕ) (s t : List ℕ) (a m i b n j : ℕ) → i + k ≤ m → j + k ≤ n

@@ -1,21 +1,21 @@
 // The anchors of a file, one by one.
-use crate::one::Five;
 use crate::one::ReadFive;
-use crate::one::key_below;
 use crate::one::own_fault;
 use crate::one::read_five;
+use anchors_rules::rules::Five;
+use anchors_rules::rules::fault_place;
+use anchors_rules::rules::key_below;
 use wire::numbers::Cursor;
 use wire::numbers::Number;
 use wire::refusals::NOT_RISING;
-use wire::refusals::OUT_OF_RANGE;
 ghost use mathlib.Core.Path.{_≡_};
 ghost use Prim.Native.Nat.{_+_, _≤_};
 ghost use lib.ListN.{length, take, drop};
 ghost use Rattle.graph_parts.specs.Answers.{answered};
-ghost use Rattle.anchors.specs.AnchorRules.{noAnchor, faultPlace};
+ghost use Rattle.anchors.specs.AnchorRules.{noAnchor};
 ghost use Rattle.anchors.specs.AnchorReading.{anchorsFrom};
 ghost use Rattle.anchors_parts.specs.LabelTables.{LabelTables, contentOf};
-ghost use Rattle.anchors_parts.specs.OneAnchor.{eachRefused};
+ghost use Rattle.anchors_parts.specs.ReadAnchor.{eachRefused};
 
 // An anchor that cannot be read, as the answer.
 fn each_refused(got: ReadFive) -> Number
@@ -25,13 +25,6 @@ fn each_refused(got: ReadFive) -> Number
         ReadFive::Got(_, _, next) => Number::Fault(0, next),
         ReadFive::Fault(k, place) => Number::Fault(k, place),
     }
-}
-
-// The place of an anchor's fault: its first byte; for 4, the weight's first byte.
-fn fault_place(k: u32, first: usize, weight_at: usize) -> usize
-    ensures { λ r. ⌜ r ≡ faultPlace k first «weight_at» ⌝ }
-{
-    if k == OUT_OF_RANGE { weight_at } else { first }
 }
 
 // The `count` anchors from the place `at` on: their number with the next cursor, or the first fault. The graph is accepted and has n vertices, whose

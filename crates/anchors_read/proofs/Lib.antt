@@ -1,2 +1,2 @@
-pub mod Taking
+-- The laws of the reader's promise.
 pub mod Promised

@@ -22,7 +22,7 @@ use Rattle.anchors.proofs.AnchorAccepting.{anchor-parts}
 use Rattle.anchors.proofs.BothFiles.{both-taken}
 use Rattle.anchors_read.specs.declared.AnchorsAnswer.{AnchorsAnswer}
 use Rattle.anchors_read.specs.Answer.{answerOf, countsAnswer, Answered}
-use Rattle.anchors_read.proofs.Taking.{anchors-are}
+use Rattle.anchors_fill.proofs.Taking.{anchors-are}
 
 -- ---- refusals
 

@@ -1,16 +1,17 @@
 // The reader of an anchor file: it checks both files, and lays an accepted anchor file's content into lent buffers.
-mod fills; // fills.rt: the read's letters and the anchors' numbers
-
 use anchors_check::AnchorSections;
 use anchors_check::CheckedBoth;
 use anchors_check::check_anchors;
-use anchors_parts::rooms::roomy;
+use anchors_fill::fill_anchors;
+use anchors_fill::fill_read;
+use anchors_rules::rooms::roomy;
 use wire::refusals::SMALL_BUFFER;
 ghost use mathlib.Core.Path.{_≡_};
 ghost use Rattle.wire.specs.Found.{refused};
 ghost use Rattle.anchors_read.specs.Answer.{answerOf, countsAnswer, Answered};
 
 // Number, file and place; then the counts of an accepted anchor file: letters of the read, and anchors.
+#[repr(C)]
 pub struct AnchorsAnswer {
     pub number: u32,
     pub file: u32,
@@ -64,8 +65,8 @@ pub fn read_anchors(
     match found {
         CheckedBoth::Refused(number, fault, place) => refusal(number, fault, place as u32),
         CheckedBoth::Accepted(_, a) => {
-            fills::fill_read(file, a.read, a.r as usize, letters);
-            fills::fill_anchors(file, a.anchors, a.n as usize, anchors);
+            fill_read(file, a.read, a.r as usize, letters);
+            fill_anchors(file, a.anchors, a.n as usize, anchors);
             acceptance(a)
         }
     }

@@ -26,11 +26,12 @@ use Rattle.anchors.specs.AnchorRules.{labelOf, noAnchor}
 use Rattle.anchors.specs.AnchorReading.{Numbers}
 use Rattle.anchors.specs.AnchorEntries.{Both, bothReply}
 use Rattle.anchors_parts.specs.LabelTables.{contentOf, startsOf, startsIn, LabelsAt}
-use Rattle.anchors_parts.specs.OneAnchor.{anchorOf, readFiveOf, numbersAfter}
+use Rattle.anchors_rules.specs.OneAnchor.{anchorOf}
+use Rattle.anchors_parts.specs.ReadAnchor.{readFiveOf, numbersAfter}
 use Rattle.anchors_check.specs.CheckedAnchors.{anchorSectionsOf, checkedBothOf}
 use Rattle.anchors_check.specs.declared.AnchorSections.{AnchorSections}
 use Rattle.anchors_check.specs.declared.CheckedBoth.the-variants as both
-use Rattle.anchors_parts.specs.declared.one.Five.{Five}
+use Rattle.anchors_rules.specs.declared.rules.Five.{Five}
 use Rattle.anchors_parts.specs.declared.one.ReadFive.the-variants.{Got, Fault}
 use Rattle.anchors.specs.View.{View, anchorNumbered, labelStart, labelView, readView, emptyView, viewIn, viewOf, lettersView}
 use Rattle.anchors_view.specs.Viewed.{viewedOf, Inside, viewedBytes}

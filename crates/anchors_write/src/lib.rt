@@ -1,8 +1,9 @@
 // The writer of an anchor file: it takes content and the graph file's bytes, checks both as the reader would, and writes the content's bytes.
 
-use anchors_content::bytes;
-use anchors_content::content;
-use anchors_parts::rooms::roomy;
+use anchors_bytes::anchors_size;
+use anchors_bytes::put_anchors;
+use anchors_content::content::content_fault;
+use anchors_rules::rooms::roomy;
 use graph_check::Checked;
 use graph_check::check_graph;
 use wire::refusals::ANCHOR_FILE;
@@ -15,6 +16,7 @@ ghost use mathlib.Core.Path.{_≡_};
 ghost use Rattle.anchors_write.specs.Answer.{refusedWith, Written};
 
 // The refusal's number, file and place, 0 in all three for an acceptance, and how many bytes were written.
+#[repr(C)]
 pub struct WrittenAnchors {
     pub number: u32,
     pub file: u32,
@@ -54,18 +56,18 @@ pub fn write_anchors(
     match found {
         Checked::Fault(number, place) => refusal(number, GRAPH_FILE, place as u32),
         Checked::Accepted(s) => {
-            let fault = content::content_fault(graph, s.labels, s.n, r, n, letters, anchors);
+            let fault = content_fault(graph, s.labels, s.n, r, n, letters, anchors);
             if fault != 0 {
                 return refusal(fault, ANCHOR_FILE, 0);
             }
-            let bytes = bytes::anchors_size(r, n, anchors);
+            let bytes = anchors_size(r, n, anchors);
             if MOST_FILE_BYTES < bytes {
                 return refusal(OUT_OF_RANGE, ANCHOR_FILE, MOST_FILE_BYTES as u32);
             }
             if out.len() < bytes {
                 return refusal(SHORT_OUTPUT, 0, 0);
             }
-            let written = bytes::put_anchors(r, n, letters, anchors, out);
+            let written = put_anchors(r, n, letters, anchors, out);
             WrittenAnchors {
                 number: 0,
                 file: 0,

@@ -1,7 +1,6 @@
 // 64-bit FNV-1a digests of bytes, and of numbers, each of 4 bytes, lowest byte first.
 ghost use mathlib.Core.Path.{_≡_};
 ghost use Prim.Native.Nat.{_*_, _%_, _^_};
-ghost use lib.ListN.{length};
 ghost use Rattle.caseinput.specs.Digest.{digestByte, digestNumber, digestBytes, digestNumbers};
 
 // The digest of no bytes.

@@ -15,7 +15,8 @@ use Rattle.rounds.specs.Table.{tableRound, entry}
 use Rattle.rounds.proofs.Upto.{within}
 use Rattle.rounds.proofs.Counts.{rounds-least}
 use Rattle.table_rounds.specs.Held.{onwardRound, Fitting, Settling}
-use Rattle.closed_rounds.specs.Closing.{sixteenStart, backBy, ClosedBy}
+use Rattle.closed_rounds.specs.Closing.{sixteenStart, ClosedBy}
+use Rattle.walk_back.specs.Back.{backBy}
 
 -- what the rounds leave fits
 pub settling-last : {n : ℕ} {lengths s : List ℕ} {rules : ℕ → Rule} → Settling n lengths rules s → 1 ≤ n → {k : ℕ} {t : List ℕ} → Rounds (tableRound cellPlace rules tableRow n) s k t → Fitting n lengths t

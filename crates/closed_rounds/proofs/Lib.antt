@@ -1,4 +1,3 @@
 -- The laws of the closed walks by the rounds: SixteenStarts of where they start, WalkBack of the last edge, Closes of the whole.
 pub mod Closes
-pub mod WalkBack
 pub mod SixteenStarts

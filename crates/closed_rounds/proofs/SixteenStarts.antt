@@ -21,9 +21,9 @@ use Rattle.cover.specs.TableRounds.{tableOf, own, home}
 use Rattle.cover.proofs.TableLaws.{table-size, table-cell}
 use Rattle.cover.proofs.DistanceRounds.{home-one}
 use Rattle.table_rounds.specs.Held.{pathIn, PathsHeld}
-use Rattle.table_rounds.specs.Starting.{OnTable, Owned}
+use Rattle.table_starts.specs.Starting.{OnTable, Owned}
 use Rattle.closed_rounds.specs.Closing.{sixteenStart}
-use Rattle.table_rounds.proofs.Starts.{table-place}
+use Rattle.table_starts.proofs.Starts.{table-place}
 
 -- the start of sixteen vertices, place by place
 pub sixteen-place : (n base q : ℕ) → q < tableRow * n → home ((base + q % 16 + 1) ∷ []) 1 (q / 16 + 1) ≡ getD (sixteenStart n base) q 0

@@ -2,25 +2,15 @@
 use Prim.Native.Nat.{ℕ, _+_, _-_, _<_}
 use mathlib.Core.Path.{_≡_}
 use mathlib.Core.List.{List, [], _∷_}
-use lib.ListN.{getD}
 use Rattle.wire.specs.Sizes.{tableRow}
 use Rattle.rounds.specs.Rounds.{Within, Rounds}
-use Rattle.rounds.specs.Gather.{gather}
-use Rattle.rounds.specs.Kinds.{shift, closer}
-use Rattle.rounds.specs.Place.{cellPlace}
-use Rattle.rounds.specs.Table.{cell}
 use Rattle.cover.specs.TableRounds.{tableOf, home}
-use Rattle.table_rows.specs.HeldEdges.{source, target}
-use Rattle.table_rounds.specs.Held.{labelLength, heldLinks, onward, onwardRound, Settling}
+use Rattle.table_rounds.specs.Held.{onward, onwardRound, Settling}
+use Rattle.walk_back.specs.Back.{backBy}
 
 -- column i starts at the vertex base + i
 abbrev pub sixteenStart : ℕ → ℕ → List ℕ
 sixteenStart n base = tableOf n (λ v i. home ((base + i) ∷ []) 1 v)
-
--- over the first k edges, the least of what edges into v bring from column i of a table
-unfoldable pub backBy : List ℕ → List ℕ → List ℕ → ℕ → ℕ → ℕ → ℕ
-backBy lengths edges table v i k =
-    gather closer (heldLinks k edges .into? v) (λ e. shift (cell cellPlace (source edges e) i table) (labelLength lengths (source edges e))) 0 k
 
 -- d is the closed walk of v by what the rounds leave
 pub record ClosedBy (n m : ℕ) (lengths edges : List ℕ) (v d : ℕ) : Type 0 where

@@ -1,28 +1,26 @@
 // Closed walks: the least walks from sixteen vertices at a time, by rounds like those of distance but over every edge, and then one edge more.
-use table_rounds::distance::less_one;
-use table_rows::rows::further;
-use table_rows::rows::nearer;
-use table_rows::rows::row_at;
-use table_rows::rows::stepped_row;
+use table_lanes::row_at;
+use table_lanes::stepped_row;
 use table_rows::rows::store_row;
 use table_rows::rows::wide;
+use walk_back::walk_back;
 use wire::sizes::ROW;
 ghost use mathlib.Core.Path.{_≡_};
 ghost use mathlib.Core.Logic.{_≢_};
 ghost use mathlib.Core.List.{_∷_, []};
 ghost use Prim.Native.Nat.{ℕ, _+_, _-_, _*_, _≤_, _<_};
-ghost use lib.ListN.{length, getD};
+ghost use lib.ListN.{length};
 ghost use Rattle.wire.specs.Sizes.{tableRow, mostVertices};
 ghost use Rattle.rounds.specs.Rounds.{Within, Rounds, sweep};
 ghost use Rattle.rounds.specs.Rule.{value};
 ghost use Rattle.rounds.specs.Place.{cellPlace};
 ghost use Rattle.rounds.specs.Table.{cell, entry};
 ghost use Rattle.rounds.specs.Loop.{Told};
-ghost use Rattle.cover.specs.TableRounds.{tableOf, home};
+ghost use Rattle.cover.specs.TableRounds.{home};
 ghost use Rattle.table_rows.specs.Lanes.{Lanes};
 ghost use Rattle.table_rows.specs.HeldEdges.{Linked};
 ghost use Rattle.table_rounds.specs.Held.{Fitting, Settling, onward, onwardRow, onwardRound};
-ghost use Rattle.closed_rounds.specs.Closing.{backBy, sixteenStart, Closable, ClosedBy};
+ghost use Rattle.closed_rounds.specs.Closing.{sixteenStart, Closable, ClosedBy};
 
 // 1, the distance 0, where the two are the same, else 0, unknown.
 fn same_cell(a: usize, b: usize) -> u32
@@ -114,34 +112,6 @@ fn settle_walks(
         count += 1;
     }
     count
-}
-
-// The least walk from the vertex of column i (counted from 0) to v over a last edge, where the table has the walks to that edge.
-fn walk_back(
-    table: &[u32],
-    lengths: &[u32],
-    edges: &[u32],
-    heads: &[u32],
-    nexts: &[u32],
-    v: usize,
-    i: usize,
-) -> u32
-    requires { ⌜ Linked (now edges) (now heads) (now nexts) ⌝ }
-    requires { ⌜ length (now heads) ≤ length (now lengths) ⌝ }
-    requires { ⌜ length (now table) ≡ tableRow * length (now heads) ⌝ }
-    requires { ⌜ Fitting (length (now heads)) (now lengths) (now table) ⌝ }
-    requires { ⌜ Within (length (now heads)) v ⌝ }
-    requires { ⌜ i < tableRow ⌝ }
-    ensures { λ r. ⌜ r ≡ backBy (now (lengths .entry)) (now (edges .entry)) (now (table .entry)) v (i + 1) (length (now (nexts .entry))) - 1 ⌝ }
-{
-    let mut best = 0;
-    let mut e = wide(heads[v - 1]);
-    while e != 0 {
-        let u = wide(edges[2 * (e - 1)]);
-        best = nearer(best, further(table[ROW * (u - 1) + i], lengths[u - 1]));
-        e = wide(nexts[e - 1]);
-    }
-    less_one(best)
 }
 
 // The closed walks of the sixteen vertices after `base`, as far as they are there.

@@ -11,7 +11,7 @@ use Rattle.wire.specs.Numbers.{numberAt}
 use Rattle.wire.specs.Refusals.{bytesEnd}
 use Rattle.wire.specs.declared.numbers.Cursor.{Cursor}
 use Rattle.wire.specs.declared.numbers.Number.the-variants.{Value}
-use Rattle.wire.proofs.Finding.{then-good, number-good, refuse-good, pick-good}
+use Rattle.wire.proofs.Finding.{then-good, number-good, refuse-good, pick-good, good-same}
 use Rattle.graph.specs.Content.{Edge}
 use Rattle.graph.specs.Rules.{letterFault, lengthFault, edgeFault, pathLengthFault, vertexFault}
 use Rattle.graph.specs.Reading.{lettersFrom, labelsFrom, edgesFrom, verticesFrom, pathsFrom}
@@ -30,7 +30,7 @@ letters-step left s at r e =
     let a = pick-good (ltb at (length s)) _ bytesEnd (length s) r e in
     let b = refuse-good (letterFault (getD s at 0)) _ _ r (a .1) in
     let c = then-good (lettersFrom left s (at + 1)) _ r (b .1) in
-    record { there = ltb-true at (length s) (a .0); kept = b .0; rest = c .0; restIs = c .1; whole = cc }
+    record { there = ltb-true at (length s) (a .0); kept = b .0; rest = c .0; restIs = c .1; whole = sym (good-same _ r (c .2)) }
 
 -- one label, and the labels after it
 pub record LabelStep (left sum : ℕ) (s : List ℕ) (at : ℕ) (r : Part (List (List ℕ))) : Type 0 where
@@ -53,7 +53,7 @@ labels-step left sum s at r e =
     let b = refuse-good (lengthFault sum (a .0)) at _ r (a .3) in
     let c = then-good (lettersFrom (a .0) s (a .1 .at)) _ r (b .1) in
     let d = then-good (labelsFrom left (sum + a .0) s (a .1 .at + a .0)) _ r (c .2) in
-    let q : record { content = c .0 ∷ d .0 .content; next = d .0 .next } ≡ r = cc in
+    let q : record { content = c .0 ∷ d .0 .content; next = d .0 .next } ≡ r = good-same _ r (d .2) in
     record {
       len = a .0;
       a = a .1;
@@ -90,7 +90,7 @@ edges-step n left last s at r e =
     let edge : Edge = record { from = a .0; to = b .0 } in
     let c = refuse-good (edgeFault n last edge) at _ r (b .3) in
     let d = then-good (edgesFrom n left edge s (b .1 .at)) _ r (c .1) in
-    let q : record { content = edge ∷ d .0 .content; next = d .0 .next } ≡ r = cc in
+    let q : record { content = edge ∷ d .0 .content; next = d .0 .next } ≡ r = good-same _ r (d .2) in
     record {
       u = a .0;
       a = a .1;
@@ -123,7 +123,7 @@ vertices-step n es left last s at r e =
     let a = number-good s at _ r e in
     let b = refuse-good (vertexFault n es last (a .0)) at _ r (a .3) in
     let c = then-good (verticesFrom n es left (a .0) s (a .1 .at)) _ r (b .1) in
-    let q : record { content = a .0 ∷ c .0 .content; next = c .0 .next } ≡ r = cc in
+    let q : record { content = a .0 ∷ c .0 .content; next = c .0 .next } ≡ r = good-same _ r (c .2) in
     record {
       v = a .0;
       a = a .1;
@@ -156,7 +156,7 @@ paths-step n es left s at r e =
     let b = refuse-good (pathLengthFault n (a .0)) at _ r (a .3) in
     let c = then-good (verticesFrom n es (a .0) 0 s (a .1 .at)) _ r (b .1) in
     let d = then-good (pathsFrom n es left s (c .0 .next)) _ r (c .2) in
-    let q : record { content = c .0 .content ∷ d .0 .content; next = d .0 .next } ≡ r = cc in
+    let q : record { content = c .0 .content ∷ d .0 .content; next = d .0 .next } ≡ r = good-same _ r (d .2) in
     record {
       count = a .0;
       a = a .1;
@@ -174,24 +174,24 @@ paths-step n es left s at r e =
 
 pub letters-none : (s : List ℕ) (at : ℕ) (r : List ℕ) → lettersFrom 0 s at ≡ good r → r ≡ []
 unfolding lettersFrom
-letters-none s at r e = cc
+letters-none s at r e = sym (good-same _ r e)
 
 pub labels-none : (sum : ℕ) (s : List ℕ) (at : ℕ) (r : Part (List (List ℕ))) → labelsFrom 0 sum s at ≡ good r
     → r ≡ record { content = []; next = at }
 unfolding labelsFrom
-labels-none sum s at r e = cc
+labels-none sum s at r e = sym (good-same _ r e)
 
 pub edges-none : (n : ℕ) (last : Edge) (s : List ℕ) (at : ℕ) (r : Part (List Edge)) → edgesFrom n 0 last s at ≡ good r
     → r ≡ record { content = []; next = at }
 unfolding edgesFrom
-edges-none n last s at r e = cc
+edges-none n last s at r e = sym (good-same _ r e)
 
 pub vertices-none : (n : ℕ) (es : List Edge) (last : ℕ) (s : List ℕ) (at : ℕ) (r : Part (List ℕ)) → verticesFrom n es 0 last s at ≡ good r
     → r ≡ record { content = []; next = at }
 unfolding verticesFrom
-vertices-none n es last s at r e = cc
+vertices-none n es last s at r e = sym (good-same _ r e)
 
 pub paths-none : (n : ℕ) (es : List Edge) (s : List ℕ) (at : ℕ) (r : Part (List (List ℕ))) → pathsFrom n es 0 s at ≡ good r
     → r ≡ record { content = []; next = at }
 unfolding pathsFrom
-paths-none n es s at r e = cc
+paths-none n es s at r e = sym (good-same _ r e)

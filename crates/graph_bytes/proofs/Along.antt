@@ -1,13 +1,15 @@
 -- Bytes written one part after the other into the lent-on rest of an output: what stands there, and what is still to be written.
 -- Assumes nothing.
-use Prim.Native.Nat.{ℕ, _+_, _-_, _≤_}
+use Prim.Native.Nat.{ℕ, _+_, _-_, _≤_, _<_, _^_}
 use mathlib.Core.Path.{_≡_, refl, sym, ap, _∙_}
 use mathlib.Core.List.{List, [], _∷_, _++_, append-assoc, append-nil}
 use native.Mathlib.Omega.{arith}
-use lib.ListN.{length, drop, length-append}
+use lib.ListN.{length, length-append, length-drop}
 use borrow.Rule.Slice.PartMut.{midOf, putMid}
+use mir.Syntax.{w64}
+use mir.Val.{Fits}
 use Rattle.wire.specs.Lent.{front}
-use Rattle.wire.proofs.Rest.{put-rest, front-length}
+use Rattle.wire.proofs.Rest.{put-rest, front-length, rest-part}
 
 -- of the bytes `whole`, those before the place `at` stand at the front of the output, which was `old`, and `rest` is still to be written
 pub record Along (whole rest old out : List ℕ) (at : ℕ) : Type 0 where
@@ -37,9 +39,25 @@ module _ {whole rest old out : List ℕ} {at : ℕ} (a : Along whole rest old ou
   pub along-room : at + length rest ≤ length out
   along-room = omega (arith, along-parts, along-long, a .room)
 
+  -- the place where what is left begins is in the output
+  pub along-within : at ≤ length out
+  along-within = let h = along-room in omega arith
+
 -- there is room for the first part of what is left
 pub along-fits : (whole fs rest old out : List ℕ) (at : ℕ) → Along whole (fs ++ rest) old out at → at + length fs ≤ length out
 along-fits whole fs rest old out at a = omega (arith, simp length-append at (along-room a))
+
+-- the rest of the output, as it is lent on, has room for the first part of what is left
+pub along-lent : (whole fs rest old out : List ℕ) (at : ℕ) → Along whole (fs ++ rest) old out at → length fs ≤ length (midOf at (length out - at) out)
+along-lent whole fs rest old out at a = let h = along-fits whole fs rest old out at a in rw (rest-part, length-drop) (omega arith)
+
+-- the place after the first part of what is left fits a number
+pub along-place : (whole fs rest old out : List ℕ) (at n : ℕ) → Along whole (fs ++ rest) old out at → n ≡ length fs → length old < 2 ^ 64
+    → Fits w64 (at + n)
+along-place whole fs rest old out at n a e w =
+    let h = along-fits whole fs rest old out at a in
+    let l = along-long a in
+    omega arith
 
 -- what is left, told in other words
 pub along-as : {whole rest old out : List ℕ} {at : ℕ} (next : List ℕ) → rest ≡ next → Along whole rest old out at → Along whole next old out at

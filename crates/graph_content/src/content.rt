@@ -1,21 +1,17 @@
-// The first fault of the labels, the edges and the paths, in the reader's order, 0 for none.
-use crate::wide;
+// The first fault of a label's letters, of the edges and of a path's vertices, in the reader's order, 0 for none.
 use graph_rules::rules::edge_below;
 use graph_rules::rules::edge_fault;
-use graph_rules::rules::length_fault;
 use graph_rules::rules::letter_fault;
-use graph_rules::rules::range_fault;
 use graph_rules::rules::rise_fault;
 use wire::refusals::NOT_EDGE;
-use wire::sizes::PATH_ROOM;
 ghost use mathlib.Core.Path.{_≡_};
 ghost use mathlib.Core.Bool.{false};
 ghost use Prim.Native.Nat.{_+_, _-_, _*_, _≤_, _<_};
 ghost use lib.ListN.{length};
-ghost use Rattle.wire.specs.Sizes.{mostVertices, mostEdges, mostPaths, fullLetters, fullLengths, fullEdges, fullPaths, fullCounts};
+ghost use Rattle.wire.specs.Sizes.{mostEdges, fullEdges};
 ghost use Rattle.graph.specs.Rules.{noEdge, edgeBelow};
 ghost use Rattle.graph.specs.Entries.{edgeIn, edgesIn};
-ghost use Rattle.graph_content.specs.Faults.{lettersFault, labelsFault, edgesFault, verticesFault, pathsFault, Rising};
+ghost use Rattle.graph_content.specs.Faults.{lettersFault, edgesFault, verticesFault, Rising};
 ghost use Rattle.graph_content.specs.Search.{Passed, edgeIs};
 
 // A label's letters, from a place up to another.
@@ -30,29 +26,6 @@ pub fn letters_fault(letters: &[u8], start: usize, end: usize) -> u32
             return fault;
         }
         at += 1;
-    }
-    0
-}
-
-// The labels: each length, and then its letters.
-pub fn labels_fault(n: usize, letters: &[u8], lengths: &[u32]) -> u32
-    requires { ⌜ (n ≤ mostVertices) × (fullLetters ≤ length (now letters)) × (fullLengths ≤ length (now lengths)) ⌝ }
-    ensures { λ r. ⌜ r ≡ labelsFault n 0 0 (now (letters .entry)) (now (lengths .entry)) ⌝ }
-{
-    let mut sum: u32 = 0;
-    let mut i: usize = 0;
-    while i < n {
-        let fault = length_fault(sum, lengths[i]);
-        if fault != 0 {
-            return fault;
-        }
-        let next = sum + lengths[i];
-        let letter = letters_fault(letters, wide(sum), wide(next));
-        if letter != 0 {
-            return letter;
-        }
-        sum = next;
-        i += 1;
     }
     0
 }
@@ -107,7 +80,14 @@ fn edge_is(m: usize, edges: &[u32], i: usize, from: u32, to: u32) -> bool
 }
 
 // A path's vertices, from a place up to another. Paths and edges rise, so that one pass over the edges finds all the path's steps.
-fn vertices_fault(n: u32, m: usize, edges: &[u32], paths: &[u32], start: usize, end: usize) -> u32
+pub fn vertices_fault(
+    n: u32,
+    m: usize,
+    edges: &[u32],
+    paths: &[u32],
+    start: usize,
+    end: usize,
+) -> u32
     requires { ⌜ (m ≤ mostEdges) × (fullEdges ≤ length (now edges)) × Rising m (now edges) ⌝ }
     requires { ⌜ (start < end) × (end ≤ length (now paths)) ⌝ }
     ensures { λ r. ⌜ r ≡ verticesFault n (edgesIn m 0 (now (edges .entry))) (end - start) start 0 (now (paths .entry)) ⌝ }
@@ -128,29 +108,6 @@ fn vertices_fault(n: u32, m: usize, edges: &[u32], paths: &[u32], start: usize, 
             return NOT_EDGE;
         }
         at += 1;
-    }
-    0
-}
-
-// The paths: each vertex count, and then its vertices.
-pub fn paths_fault(n: u32, m: usize, k: usize, edges: &[u32], paths: &[u32], counts: &[u32]) -> u32
-    requires { ⌜ (m ≤ mostEdges) × (fullEdges ≤ length (now edges)) × Rising m (now edges) ⌝ }
-    requires { ⌜ (n ≤ mostVertices) × (k ≤ mostPaths) × (fullPaths ≤ length (now paths)) × (fullCounts ≤ length (now counts)) ⌝ }
-    ensures { λ r. ⌜ r ≡ pathsFault n (edgesIn m 0 (now (edges .entry))) k 0 (now (paths .entry)) (now (counts .entry)) ⌝ }
-{
-    let mut i: usize = 0;
-    while i < k {
-        let fault = range_fault(1, n, counts[i]);
-        if fault != 0 {
-            return fault;
-        }
-        let start = PATH_ROOM * i;
-        let end = start + wide(counts[i]);
-        let vertex = vertices_fault(n, m, edges, paths, start, end);
-        if vertex != 0 {
-            return vertex;
-        }
-        i += 1;
     }
     0
 }

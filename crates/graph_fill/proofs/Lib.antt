@@ -3,5 +3,4 @@ pub mod Items
 pub mod Fronts
 pub mod Packing
 pub mod Decoding
-pub mod LabelRuns
 pub mod PathRooms

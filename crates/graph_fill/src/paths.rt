@@ -1,10 +1,10 @@
 // The paths of an accepted file: each in its room, and their vertex counts.
 use crate::numbers::take_number;
 use crate::numbers::take_numbers;
-use wire::lent::zero_rest_u32;
 use wire::sizes::FULL_COUNTS;
 use wire::sizes::FULL_PATHS;
 use wire::sizes::PATH_ROOM;
+use wire_lent::zero_rest_u32;
 ghost use mathlib.Core.Path.{_≡_};
 ghost use mathlib.Core.List.{map};
 ghost use Prim.Native.Nat.{_≤_};

@@ -2,9 +2,9 @@
 
 use graph_check::Checked;
 use graph_check::Sections;
-use graph_fill::edges;
-use graph_fill::labels;
 use graph_fill::paths;
+use graph_fill_front::edges;
+use graph_fill_front::labels;
 use graph_rules::rooms::roomy;
 use wire::refusals::GRAPH_FILE;
 use wire::refusals::SMALL_BUFFER;
@@ -13,6 +13,7 @@ ghost use Rattle.wire.specs.Found.{refused};
 ghost use Rattle.graph_read.specs.Answer.{answerOf, countsAnswer, Answered};
 
 // Number, file and place; then the counts of an accepted file: vertices, letters of all labels, edges, paths.
+#[repr(C)]
 pub struct GraphAnswer {
     pub number: u32,
     pub file: u32,

@@ -38,7 +38,7 @@ pub fn length_fault(sum: u32, len: u32) -> u32
 pub fn letter_fault(byte: u8) -> u32
     ensures { λ r. ⌜ r ≡ letterFault byte ⌝ }
 {
-    if wire::letters::is_letter(byte) {
+    if wire_letters::is_letter(byte) {
         0
     } else {
         NOT_LETTER

@@ -1,7 +1,7 @@
-// The writer of a graph file: it takes content, checks it as the reader would (crate graph_content), and writes its bytes (crate graph_bytes).
-use graph_bytes::graph_size;
-use graph_bytes::put_graph;
-use graph_content::content_fault;
+// The writer of a graph file: it takes content, checks it as the reader would (crate graph_faults), and writes its bytes (crate graph_file_bytes).
+use graph_faults::content_fault;
+use graph_file_bytes::graph_size;
+use graph_file_bytes::put_graph;
 use graph_rules::rooms::roomy;
 use wire::refusals::GRAPH_FILE;
 use wire::refusals::OUT_OF_RANGE;
@@ -14,6 +14,7 @@ ghost use Rattle.graph_content.specs.Used.{givenOf};
 ghost use Rattle.graph_write.specs.Answer.{refusedWith, Written};
 
 // The refusal's number, file and place, 0 in all three for an acceptance, and how many bytes were written.
+#[repr(C)]
 pub struct WrittenAnswer {
     pub number: u32,
     pub file: u32,

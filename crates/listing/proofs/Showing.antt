@@ -29,9 +29,12 @@ use Rattle.placing.specs.Answer as entries
 use Rattle.placing.specs.declared.ChainAnswer.{ChainAnswer}
 use Rattle.placing.proofs.Reading.{laid-anchor}
 use Rattle.placing.proofs.Answering.{sweep-one}
-use Rattle.listing_text.specs.Lines.{foundLine, refusedLine, anchorLine, Printed, lineIn, Numbered, linesIn}
-use Rattle.listing.specs.Printing.{anchorLines, listingOf, Outcome, Listed, File, missing, read, Output}
-use Rattle.listing_text.proofs.Each.{each-same}
+use Rattle.listing_lines.specs.Lines.{refusedLine, noFileLine, Printed}
+use Rattle.listing_result.specs.Showing.{listingOf, Shown, SomeShown}
+use Rattle.loaded.specs.Files.{File, missing, read, fileIn, bytesIn, missingOf}
+use Rattle.loaded.specs.declared.Loaded.{Loaded}
+use Rattle.loaded.specs.declared.Loaded.the-variants.{Bytes, Missing}
+use Rattle.listing.specs.Printing.{Outcome, Listed, Output}
 
 -- ---- the chain returned
 
@@ -140,52 +143,55 @@ module _ (graph file : List ℕ) (b after : ChainBuffers) (r : ChainAnswer) (T :
   long : r .length ≡ length (result .chain)
   long = ap (λ (z : ChainAnswer). z .length) (T .placed .answer)
 
-  -- the chain's length is within its buffer, and so is N
-  pub shown-fits : (r .length ≤ fullChain) × (r .anchors ≤ fullChain)
-  shown-fits =
-      let n : r .anchors ≡ length anchors = ap (λ (z : ChainAnswer). z .anchors) (T .placed .answer) in
-      (omega (arith, long, used-fits fullChain (result .chain) (b .chain), ap length chain-lies, lc), omega (arith, n, few))
+  -- the anchors and the sweep's result are in the answer and in the buffers
+  shown : Shown anchors result (r .anchors) (r .score) (r .rounds) (r .length) (e .anchors) (after .scores) (after .chain)
+  shown = record {
+    few = few;
+    numbersRoom = ln;
+    scoresRoom = ls;
+    chainRoom = lc;
+    anchorsIs = ap (λ (z : ChainAnswer). z .anchors) (T .placed .answer);
+    scoreIs = ap (λ (z : ChainAnswer). z .score) (T .placed .answer);
+    roundsIs = ap (λ (z : ChainAnswer). z .rounds) (T .placed .answer);
+    longIs = long;
+    held = λ j w. ap (λ (s : List ℕ). anchorIn s (j - 1)) numbers-lie ∙ laid-anchor anchors (d .anchors) few j w;
+    scored = λ j w. ap (entry j) scores-lie
+        ∙ laid-at fullScores (result .scores) (b .scores) (omega (arith, few, T .placed .is .result .size)) (j - 1) (omega (arith, w .low, w .high, few));
+    chained = ap (take (r .length)) chain-lies ∙ take-laid fullChain (r .length) (result .chain) (b .chain) long;
+    inFile = returned-within (T .both .graph .graph) anchors (result .scores) (T .placed .is .result .returned);
+  }
 
-  used : take (r .length) (after .chain) ≡ result .chain
-  used = ap (take (r .length)) chain-lies ∙ take-laid fullChain (r .length) (result .chain) (b .chain) long
+  pub some-shown : SomeShown (r .anchors) (r .score) (r .rounds) (r .length) (e .anchors) (after .scores) (after .chain)
+  some-shown = record { list = anchors; result = result; shown = shown }
 
-  in-file : (i : ℕ) → i < length (result .chain) → Within (length anchors) (getD (result .chain) i 0)
-  in-file = returned-within (T .both .graph .graph) anchors (result .scores) (T .placed .is .result .returned)
-
-  -- what is shown are anchors
-  pub shown-numbered : Numbered (e .anchors) (after .scores) (take (r .length) (after .chain))
-  shown-numbered =
-      subst (λ (js : List ℕ). Numbered (e .anchors) (after .scores) js) (sym used)
-      (λ i h. let w = in-file i h in (w .low, omega (arith, w .high, few, ls), omega (arith, w .high, few, ln)))
-
-  same-line : (j : ℕ) → Within (length anchors) j → lineIn (e .anchors) (after .scores) j ≡ anchorLine j (anchorAt anchors j) (entry j (result .scores))
-  same-line j w =
-      let a : anchorIn (e .anchors) (j - 1) ≡ anchorAt anchors j =
-      ap (λ (s : List ℕ). anchorIn s (j - 1)) numbers-lie ∙ laid-anchor anchors (d .anchors) few j w in
-      let s : entry j (after .scores) ≡ entry j (result .scores) =
-      ap (entry j) scores-lie
-      ∙ laid-at fullScores (result .scores) (b .scores) (omega (arith, few, T .placed .is .result .size)) (j - 1) (omega (arith, w .low, w .high, few)) in
-      λ i. anchorLine j (a i) (s i)
-
-  same-lines : linesIn (e .anchors) (after .scores) (take (r .length) (after .chain)) ≡ anchorLines anchors (result .scores) (result .chain)
-  same-lines =
-      ap (λ (js : List ℕ). linesIn (e .anchors) (after .scores) js) used
-      ∙ each-same _ (λ j. anchorLine j (anchorAt anchors j) (entry j (result .scores))) (result .chain) (λ i h. same-line (getD (result .chain) i 0) (in-file i h))
-
-  same-text : foundLine (r .anchors) (r .score) (r .rounds) ++ linesIn (e .anchors) (after .scores) (take (r .length) (after .chain)) ≡ listingOf anchors result
-  unfolding listingOf
-  same-text =
-      ap (λ (t : List ℕ). foundLine (r .anchors) (r .score) (r .rounds) ++ t) same-lines
-      ∙ ap (λ (z : ChainAnswer). foundLine (z .anchors) (z .score) (z .rounds) ++ anchorLines anchors (result .scores) (result .chain)) (T .placed .answer)
-
-  -- the first line and the lines from the buffers are the listing
+  -- what is laid of them is the listing
   pub found-listed : (old out : List ℕ) (n : ℕ)
-      → Printed (foundLine (r .anchors) (r .score) (r .rounds) ++ linesIn (e .anchors) (after .scores) (take (r .length) (after .chain))) old out n
+      → ((l : List Anchor) (t : Result) → Shown l t (r .anchors) (r .score) (r .rounds) (r .length) (e .anchors) (after .scores) (after .chain) → Printed (listingOf l t) old out n)
       → Listed graph file old out n
   found-listed old out n p = record {
-    outcome = subst (λ (x : Reply Both). Outcome x old out n) (sym (T .found))
-        (record { result = result; is = T .placed .is; printed = subst (λ (t : List ℕ). Printed t old out n) same-text p });
+    outcome = subst (λ (x : Reply Both). Outcome x old out n) (sym (T .found)) (record { result = result; is = T .placed .is; printed = p anchors result shown });
   }
+
+-- ---- a file that is missing
+
+module _ (old out : List ℕ) (n : ℕ) where
+  -- one is missing, and it is named
+  pub missing-printed : (g a : File) (k : ℕ) → k ≡ missingOf g a → (k ≡ 0 → ⊥) → Printed (noFileLine k) old out n → Output g a old out n
+  missing-printed missing a k e z p = subst (λ (x : ℕ). Printed (noFileLine x) old out n) e p
+  missing-printed (read g) missing k e z p = subst (λ (x : ℕ). Printed (noFileLine x) old out n) e p
+  missing-printed (read g) (read a) k e z p = absurd (z e)
+
+  by-bytes : (g a : Loaded) (graph anchors : List ℕ) → missingOf (fileIn g graph) (fileIn a anchors) ≡ 0
+      → Listed (bytesIn g graph) (bytesIn a anchors) old out n → Output (fileIn g graph) (fileIn a anchors) old out n
+  by-bytes (Bytes k) (Bytes m) graph anchors e h = h
+  by-bytes (Bytes k) Missing graph anchors e h = absurd (omega (arith, e))
+  by-bytes Missing a graph anchors e h = absurd (omega (arith, e))
+
+  -- none is, and the listing of their bytes x and y is printed
+  pub both-printed : (g a : Loaded) (graph anchors x y : List ℕ) (k : ℕ) → k ≡ missingOf (fileIn g graph) (fileIn a anchors) → k ≡ 0
+      → x ≡ bytesIn g graph → y ≡ bytesIn a anchors → Listed x y old out n → Output (fileIn g graph) (fileIn a anchors) old out n
+  both-printed g a graph anchors x y k e z p q h =
+      by-bytes g a graph anchors (sym e ∙ z) (subst (λ (t : List ℕ). Listed (bytesIn g graph) t old out n) q (subst (λ (t : List ℕ). Listed t y old out n) p h))
 
 -- ---- one answer
 

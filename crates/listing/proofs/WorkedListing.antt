@@ -3,9 +3,13 @@ use Prim.Native.Nat.{ℕ}
 use mathlib.Core.Path.{_≡_, refl}
 use mathlib.Core.List.{List, [], _∷_, _++_}
 use Rattle.chain.specs.WorkedAnchors.{acttca, acttcaResult}
-use Rattle.listing_text.specs.Decimal.{decimalIn, decimal}
-use Rattle.listing_text.specs.Lines.{told, each, anchorLine, refusedLine, Printed}
-use Rattle.listing.specs.Printing.{listingOf, File, missing, read, Output}
+use Rattle.decimal_text.specs.Decimal.{decimalIn, decimal}
+use Rattle.decimal_text.specs.Words.{told}
+use Rattle.listing_lines.specs.Lines.{refusedLine, Printed}
+use Rattle.listing_text.specs.Lines.{each, anchorLine}
+use Rattle.listing_result.specs.Showing.{listingOf}
+use Rattle.loaded.specs.Files.{File, missing, read}
+use Rattle.listing.specs.Printing.{Output}
 
 -- G1's anchors, with the result that `acttca-works` (chain) proves: `anchors 3 score 6 rounds 2`, `1 1 1 2 1 2 2`, `2 3 1 2 3 4 4`, `3 4 1 2 5 6 6`
 pub first-listing : listingOf (acttca .anchors) acttcaResult

@@ -1,3 +1,2 @@
 -- The definitions of the listing.
 pub mod Printing
-pub mod Files

@@ -1,22 +1,20 @@
 // What the listing program prints, laid into a lent output: the listing of two files' bytes, a refusal, or that a file is not there.
-pub mod loaded; // loaded.rt: what loading a file gave
-
 use anchors_read::read_anchors;
-use listing_text::put_listing;
-use listing_text::put_no_file;
-use listing_text::put_refused;
+use listing_lines::put_no_file;
+use listing_lines::put_refused;
+use listing_result::put_result;
 use loaded::Loaded;
+use loaded::bytes_of;
 use loaded::head;
+use loaded::missing_file;
 use sweep_placing::sweep;
 ghost use mathlib.Core.Path.{_≡_};
-ghost use mathlib.Core.List.{_++_};
 ghost use Prim.Native.Nat.{_≤_};
 ghost use lib.ListN.{length, take};
-ghost use Rattle.wire.specs.Lent.{front};
-ghost use Rattle.wire.specs.Sizes.{fullLetters, fullAnchors, fullScores, fullChain};
-ghost use Rattle.listing_text.specs.Lines.{foundLine, refusedLine, noFileLine, linesIn, Numbered, Printed, lineRoom, listingRoom};
+ghost use Rattle.wire.specs.Sizes.{fullLetters, fullAnchors, fullChain};
+ghost use Rattle.listing_text.specs.Lines.{listingRoom};
 ghost use Rattle.listing.specs.Printing.{Listed, Output};
-ghost use Rattle.listing.specs.Files.{fileIn};
+ghost use Rattle.loaded.specs.Files.{fileIn};
 
 // Buffers of full size: letters, anchors, and scores or a chain.
 fn letters_room() -> [u8; 32768]
@@ -58,15 +56,15 @@ fn list(graph: &[u8], file: &[u8], out: &mut [u8]) -> usize
     let mut letters = letters_room();
     let mut numbers = anchors_room();
     read_anchors(graph, file, &mut letters, &mut numbers);
-    let count = r.length as usize;
-    put_listing(
+    put_result(
         out,
         r.anchors,
         r.score,
         r.rounds,
+        r.length,
         &numbers,
         &scores,
-        &chain[..count],
+        &chain,
     )
 }
 
@@ -75,13 +73,11 @@ fn list(graph: &[u8], file: &[u8], out: &mut [u8]) -> usize
 pub fn output(g: Loaded, graph: &[u8], a: Loaded, anchors: &[u8], out: &mut [u8; 163920]) -> usize
     ensures { λ r. ⌜ Output (fileIn g (now (graph .entry))) (fileIn a (now (anchors .entry))) (now (out .entry)) (now (out .exit)) r ⌝ }
 {
-    let Loaded::Bytes(n) = g else {
-        return put_no_file(out, 1);
-    };
-    let Loaded::Bytes(m) = a else {
-        return put_no_file(out, 2);
-    };
-    list(head(graph, n), head(anchors, m), out)
+    let k = missing_file(g, a);
+    if k != 0 {
+        return put_no_file(out, k);
+    }
+    list(bytes_of(g, graph), bytes_of(a, anchors), out)
 }
 
 // The first n bytes of an output, or all of it.

@@ -1,5 +1,5 @@
 // Loading a file: opened, read as far as a refusal needs, and closed.
-use listing::loaded::Loaded;
+use loaded::Loaded;
 ghost use Prim.Native.Nat.{_+_, _≤_};
 ghost use lib.ListN.{length};
 ghost use mathlib.Core.Path.{_≡_};

@@ -1,5 +1,3 @@
--- The laws of the lines: digits, what is laid one after the other, and how many bytes it takes.
-pub mod Digits
+-- The laws of the lines of anchors: what is laid for each, and how many bytes it takes.
 pub mod Each
-pub mod Ending
 pub mod Rooms

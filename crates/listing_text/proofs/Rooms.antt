@@ -1,4 +1,4 @@
--- How many bytes a line takes: every number has at most ten digits.
+-- How many bytes the lines of anchors take: every number has at most ten digits.
 -- Assumes nothing.
 use Prim.Native.Nat.{ℕ, _+_, _-_, _*_, _^_, _≤_, _<_}
 use mathlib.Core.List.{List, _++_}
@@ -7,23 +7,12 @@ use lib.ListN.{length, getD, length-append}
 use Rattle.anchors.specs.Anchors.{Anchor, y, d, perAnchor}
 use Rattle.anchors.specs.AnchorEntries.{anchorIn}
 use Rattle.rounds.specs.Table.{entry}
-use Rattle.listing_text.specs.Decimal.{decimal}
-use Rattle.listing_text.specs.Lines.{lineEnd, said, told, each, anchorLine, lineIn, linesIn, lineRoom}
-use Rattle.listing_text.proofs.Digits.{tenDigits, decimal-most}
+use Rattle.decimal_text.specs.Decimal.{decimal}
+use Rattle.decimal_text.specs.Words.{lineEnd, said, told}
+use Rattle.listing_lines.specs.Lines.{lineRoom}
+use Rattle.listing_text.specs.Lines.{each, anchorLine, lineIn, linesIn}
+use Rattle.decimal_text.proofs.Digits.{tenDigits, decimal-most}
 use Rattle.listing_text.proofs.Each.{each-most}
-
-pub said-most : (w : List ℕ) (n : ℕ) → length w ≤ 8 → n < tenDigits → length (said w n) ≤ 18
-said-most w n h k = omega (arith, length-append w (decimal n), decimal-most n k)
-
--- a line of three words of at most eight letters
-pub told-most : (u v w : List ℕ) (a b c : ℕ) → length u ≤ 8 → length v ≤ 8 → length w ≤ 8 → a < tenDigits → b < tenDigits → c < tenDigits
-    → length (told u a v b w c) ≤ lineRoom
-unfolding told
-told-most u v w a b c hu hv hw ha hb hc =
-    let e1 = length-append (said u a) (said v b ++ (said w c ++ lineEnd)) in
-    let e2 = length-append (said v b) (said w c ++ lineEnd) in
-    let e3 = length-append (said w c) lineEnd in
-    omega (arith, said-most u a hu ha, said-most v b hv hb, said-most w c hw hc)
 
 -- an anchor's line
 pub line-most : (j : ℕ) (a : Anchor) (score : ℕ) → j < tenDigits → a .v < tenDigits → a .x < tenDigits → y a < tenDigits → a .c < tenDigits → d a < tenDigits

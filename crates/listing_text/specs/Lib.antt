@@ -1,3 +1,2 @@
--- The definitions of the lines.
-pub mod Decimal
+-- The definitions of the lines of anchors.
 pub mod Lines

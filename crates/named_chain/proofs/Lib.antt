@@ -1,3 +1,2 @@
--- The laws of the chain that is returned: BackLaws of its loops, WayLaws of the way back.
-pub mod BackLaws
+-- The laws of the chain that is returned: WayLaws of the way back.
 pub mod WayLaws

@@ -24,7 +24,8 @@ use Rattle.chain.specs.Named.{Gives, Back, stop, go, Top, empty, some}
 use Rattle.chain.proofs.NamedLaws.{given}
 use Rattle.steps.specs.Setting.{Setting, anchorOf, stepOf, Holds}
 use Rattle.steps.specs.Scores.{Scored}
-use Rattle.named_chain.specs.Returning.{Lowest, Origin, CameFrom, WayBack, ChainLaid}
+use Rattle.score_giver.specs.Giver.{Lowest}
+use Rattle.named_chain.specs.Returning.{Origin, CameFrom, WayBack, ChainLaid}
 use Rattle.steps.proofs.HeldLaws.{held-within, within-held, held-number, held-order, step-told}
 use Rattle.steps.proofs.SettingLaws.{held-step}
 

@@ -1,29 +1,17 @@
--- What the functions of the named chain say: the anchor that gives a score, the way back, and the chain as it is lent back.
-use Prim.Native.Nat.{ℕ, _+_, _-_, _≤_}
+-- What the functions of the named chain say: where to go back to, the way back, and the chain as it is lent back.
+use Prim.Native.Nat.{ℕ}
 use mathlib.Core.Path.{_≡_}
 use mathlib.Core.Logic.{_≢_, _⊎_}
 use mathlib.Core.List.{List}
-use lib.ListN.{length, getD}
+use lib.ListN.{length}
 use Rattle.wire.specs.Lent.{laid}
 use Rattle.wire.specs.Sizes.{fullChain}
-use Rattle.rounds.specs.Rounds.{Within}
 use Rattle.rounds.specs.Table.{entry}
 use Rattle.graph.specs.Content.{Graph}
 use Rattle.anchors.specs.Anchors.{Anchor, AnchorSet}
 use Rattle.chain.specs.Steps.{anchorAt}
 use Rattle.chain.specs.Named.{LowestGiving, Back, Returned}
-use Rattle.pair_step.specs.Pairs.{Ends, stepFrom}
 use Rattle.steps.specs.Setting.{Setting, Holds}
-
--- r is the lowest of 1 to n with P; 0 where none has it
-pub record Lowest (P : ℕ → Type 0) (n r : ℕ) : Type 0 where
-  pub there : (r ≡ 0) ⊎ (Within n r × P r)
-  pub low : (h : ℕ) → Within n h → P h → (1 ≤ r) × (r ≤ h)
-
--- anchor i gives this score to an anchor at (v, x, c) of this weight: there is a step, and its candidate is the score
-abbrev pub GivesIn : Ends → List ℕ → List ℕ → ℕ → ℕ → ℕ → ℕ → ℕ → ℕ → Type 0
-GivesIn ends scores row score v x c weight i =
-    (1 ≤ stepFrom ends row v x c i) × (getD scores (i - 1) 0 + weight ≡ score + (stepFrom ends row v x c i - 1))
 
 -- "Going back from an anchor: stop if its score is its weight, else take the lowest-numbered anchor that gives its score.": 0 where it stops
 abbrev pub Origin : Graph → List Anchor → List ℕ → ℕ → ℕ → Type 0

@@ -1,74 +1,24 @@
 // The chain that is returned: from the lowest-numbered anchor of greatest score back along the anchors that give the scores.
 use anchors::PER_ANCHOR;
-use pair_step::step::gives;
-use pair_step::step::step;
-use steps::row::make_row;
-use wire::lent::zero_rest_u32;
+use chain_parts::copy_from;
+use chain_parts::top;
+use score_giver::giver;
+use vertex_row::make_row;
 use wire::sizes::FULL_CHAIN;
+use wire_lent::zero_rest_u32;
 ghost use mathlib.Core.Path.{_≡_};
-ghost use Prim.Native.Nat.{_+_, _-_, _≤_, _<_};
+ghost use Prim.Native.Nat.{_≤_};
 ghost use lib.ListN.{length, drop};
-ghost use Rattle.wire.specs.Sizes.{mostRead, fullChain};
-ghost use Rattle.wire.specs.Lent.{front};
+ghost use Rattle.wire.specs.Sizes.{fullChain};
 ghost use Rattle.rounds.specs.Rounds.{Within};
-ghost use Rattle.pair_step.specs.Pairs.{RowFits, EndsFit};
 ghost use Rattle.steps.specs.Setting.{settingOf};
 ghost use Rattle.steps.specs.Scores.{Scored};
-ghost use Rattle.chain.specs.Named.{Top};
-ghost use Rattle.named_chain.specs.Returning.{Lowest, GivesIn, CameFrom, WayBack, ChainLaid};
+ghost use Rattle.named_chain.specs.Returning.{CameFrom, WayBack, ChainLaid};
 
 // The length of the chain that is returned, and its score.
 pub struct Chained {
     pub length: usize,
     pub score: u32,
-}
-
-// "the lowest-numbered anchor of greatest score", of anchors 1 to n, of which there is at least one.
-pub fn top(scores: &[u32], n: usize) -> usize
-    requires { ⌜ (1 ≤ n) × (n ≤ length (now scores)) ⌝ }
-    ensures { λ r. ⌜ Top n (now (scores .entry)) r ⌝ }
-{
-    let mut best: usize = 0;
-    let mut i: usize = 1;
-    while i < n {
-        if scores[best] < scores[i] {
-            best = i;
-        }
-        i += 1;
-    }
-    best + 1
-}
-
-// "the lowest-numbered anchor that gives its score", of anchors 1 to n, for an anchor of this score and weight at (v, x, c); 0 where none gives it.
-pub fn giver(
-    n: usize,
-    us: &[u32],
-    ys: &[u32],
-    ds: &[u32],
-    scores: &[u32],
-    row: &[u32],
-    score: u32,
-    v: u32,
-    x: u32,
-    c: u32,
-    weight: u32,
-) -> usize
-    requires { ⌜ EndsFit n (record { us = now us; ys = now ys; ds = now ds }) ⌝ }
-    requires { ⌜ RowFits n (record { us = now us; ys = now ys; ds = now ds }) (now row) ⌝ }
-    requires { ⌜ (n ≤ length (now scores)) × (x ≤ mostRead) × (c ≤ mostRead) × (1 ≤ x) ⌝ }
-    ensures { λ r. ⌜ Lowest (GivesIn (record { us = now (us .entry); ys = now (ys .entry); ds = now (ds .entry) }) (now (scores .entry)) (now (row .entry)) score v x c weight) n r ⌝ }
-{
-    let mut i: usize = 0;
-    while i < n {
-        let s = step(row, us[i], ys[i], ds[i], v, x, c);
-        if 0 < s {
-            if gives(scores[i], weight, s - 1, score) {
-                return i + 1;
-            }
-        }
-        i += 1;
-    }
-    0
 }
 
 // The anchor to go back to from anchor j; 0 to stop there: "stop if its score is its weight, else take the lowest-numbered anchor that gives its score".
@@ -166,18 +116,6 @@ fn way_back(
             return at;
         }
         j = i;
-    }
-}
-
-// The numbers from the place `at` on, at the front of `out`.
-fn copy_from(from: &[u32], at: usize, out: &mut [u32])
-    requires { ⌜ (at ≤ length (now from)) × (length (now from) ≤ length (now out) + at) ⌝ }
-    ensures { λ _. ⌜ now (out .exit) ≡ front (drop at (now (from .entry))) (now (out .entry)) ⌝ }
-{
-    let mut i: usize = 0;
-    while at + i < from.len() {
-        out[i] = from[at + i];
-        i += 1;
     }
 }
 

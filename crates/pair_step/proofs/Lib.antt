@@ -1,3 +1,2 @@
--- The laws of a step's numbers: Integers of its candidate, PairLaws of the step.
-pub mod Integers
+-- The laws of a step's numbers: PairLaws of the step.
 pub mod PairLaws

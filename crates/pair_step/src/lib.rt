@@ -1,2 +1,2 @@
-// The step between two anchors with its gaps and its candidate.
-pub mod step; // step.rt: the step between two anchors, its gaps, its candidate
+// The step between two anchors with its gaps.
+pub mod step; // step.rt: the step between two anchors, its gaps

@@ -2,28 +2,20 @@
 use Prim.Native.Nat.{ℕ, zero, suc, _+_, _-_, _*_, _≤_, _<_}
 use mathlib.Core.Path.{_≡_, refl, sym, ap, _∙_, subst}
 use mathlib.Core.Logic.{_⊎_, inl, inr, ⊎-elim}
-use mathlib.Core.List.{List, [], _∷_, _++_}
+use mathlib.Core.List.{List, [], _∷_}
 use mathlib.Core.Bool.{true, false}
 use native.Mathlib.Omega.{arith}
-use lib.ListN.{length, getD, take, drop}
+use lib.ListN.{length, getD}
 use lib.Dec.{leb}
 use borrow.Author.Tests.{leb-true, le-leb}
-use Rattle.wire.specs.Found.{Reply, good, accepted, refused}
+use Rattle.wire.specs.Found.{Reply, accepted, refused}
 use Rattle.wire.specs.Lent.{laid}
 use Rattle.wire.specs.Refusals.{smallBuffer}
-use Rattle.wire.specs.Sizes.{tableRow, mostAnchors, fullLetters, fullAnchors, fullScores, fullChain}
-use Rattle.wire.proofs.NumberLaws.{Bytes}
+use Rattle.wire.specs.Sizes.{mostAnchors, fullLetters, fullAnchors, fullScores, fullChain}
 use Rattle.wire.proofs.Laying.{laid-at, length-laid}
 use Rattle.rounds.specs.Rounds.{Within}
 use Rattle.rounds.proofs.Upto.{within}
-use Rattle.graph.specs.Content.{Graph, pathCount}
 use Rattle.graph.proofs.Kept.{both}
-use Rattle.graph.specs.Reading.{Parsed, graphOf}
-use Rattle.graph.specs.Entries.{Buffers, roomy, readReply}
-use Rattle.graph_read.specs.Answer as reader
-use Rattle.graph_read.specs.declared.GraphAnswer.{GraphAnswer}
-use Rattle.graph_read.proofs.Replying.{Full}
-use Rattle.graph_read.proofs.Outcome.{Accepts}
 use Rattle.anchors.specs.Anchors.{Anchor, AnchorSet, perAnchor, anchorNumbers}
 use Rattle.anchors.specs.AnchorRules.{noAnchor}
 use Rattle.anchors.specs.GoodAnchors.{GoodAnchors}
@@ -33,11 +25,8 @@ use Rattle.anchors.proofs.BothFiles.{both-taken, both-good}
 use Rattle.anchors_read.specs.Answer.{answerOf, Answered}
 use Rattle.anchors_read.specs.declared.AnchorsAnswer.{AnchorsAnswer}
 use Rattle.chain.specs.Steps.{anchorAt}
-use Rattle.tables.proofs.Accepted.{full-roomy, accepted-holds, accepted-paths}
 use Rattle.chain.specs.ChainEntries.{ChainBuffers, roomyChain, chainReply}
-use Rattle.table_rounds.specs.Held.{Holds}
-use Rattle.placing_over.specs.Lying.{AnchorsLie, TablesLie}
-use Rattle.placing_over.proofs.Results.{part-taken}
+use Rattle.placing_over.specs.Lying.{AnchorsLie}
 use Rattle.placing.specs.Begun.{Taken, Begun}
 
 -- ---- the anchors as they lie
@@ -172,30 +161,3 @@ module _ (graph file : List ℕ) (b : ChainBuffers) where
     read-begun =
         let f = full-anchors l full room in
         record { takes = λ z. took (both-zero graph file l after r f A z); refuses = λ n. replied _ (both-some graph file l after r f A n) }
-
--- ---- the reader of the graph file
-
-unfoldable graph-accepts : (graph : List ℕ) (l after : Buffers) (r : GraphAnswer) (p : Parsed) → graphOf graph ≡ good p → roomy l ≡ true → reader.Answered graph l after r
-    → Accepts graph l after r
-unfolding readReply
-graph-accepts graph l after r p e h A =
-    let reply : readReply graph l ≡ accepted p = rw (h, e) in
-    record { parsed = p; found = e; full = h; content = A .buffers ∙ rw reply; answer = A .answer ∙ rw reply }
-
--- an accepted graph's content lies in the buffers, by the numbers of the reader's answer
-module _ (graph : List ℕ) (l after : Buffers) (r : GraphAnswer) (bytes : Bytes graph) (full : Full l) (A : reader.Answered graph l after r) (p : Parsed) (e : graphOf graph ≡ good p) where
-  pub graph-held : Holds (p .graph) (r .vertices) (r .edges) (after .lengths) (after .edges) (after .paths) (after .counts)
-  unfolding graph-accepts
-  graph-held = accepted-holds graph l after r bytes full (graph-accepts graph l after r p e (full-roomy l full) A)
-
-  pub graph-paths : pathCount (p .graph) ≡ r .paths
-  unfolding graph-accepts
-  graph-paths = sym (accepted-paths graph l after r (graph-accepts graph l after r p e (full-roomy l full) A))
-
--- tables that were made in the front parts of buffers are there
-pub tables-front : {g : Graph} {n k : ℕ} {lengths paths : List ℕ} (x y z oldX oldY oldZ : List ℕ) → length z ≡ n → TablesLie g n k lengths paths x y z
-    → TablesLie g n k lengths paths (take (tableRow * n) (x ++ drop (tableRow * n) oldX)) (take (tableRow * n) (y ++ drop (tableRow * n) oldY)) (take n (z ++ drop n oldZ))
-tables-front {g} {n} {k} {lengths} {paths} x y z oldX oldY oldZ l L =
-    let lx : length x ≡ tableRow * n = L .reachIs .size ∙ ap (λ (v : ℕ). tableRow * v) (L .vertices) in
-    let ly : length y ≡ tableRow * n = L .distanceIs .size ∙ ap (λ (v : ℕ). tableRow * v) (L .vertices) in
-    rw (part-taken (tableRow * n) x oldX lx, part-taken (tableRow * n) y oldY ly, part-taken n z oldZ l) L

@@ -1,19 +1,17 @@
--- What a chaining entry has on its way, before its engine: the reply with the anchors of accepted files, then the graph with its tables.
-use Prim.Native.Nat.{ℕ, _*_, _≤_}
+-- What a chaining entry has on its way, before its engine: the reply with the anchors of accepted files.
+use Prim.Native.Nat.{ℕ, _≤_}
 use mathlib.Core.Path.{_≡_}
 use mathlib.Core.List.{List}
 use mathlib.Core.Logic.{_≢_}
-use lib.ListN.{length, take}
+use lib.ListN.{length}
 use Rattle.wire.specs.Found.{good, accepted, refused}
-use Rattle.wire.specs.Sizes.{tableRow, fullScores, fullChain}
-use Rattle.graph.specs.Content.{Graph}
+use Rattle.wire.specs.Sizes.{fullScores, fullChain}
 use Rattle.graph.specs.Reading.{Parsed, graphOf}
-use Rattle.graph_read.specs.declared.GraphAnswer.{GraphAnswer}
 use Rattle.anchors.specs.Anchors.{AnchorSet, readLength}
 use Rattle.anchors.specs.AnchorEntries.{Both}
 use Rattle.anchors_read.specs.declared.AnchorsAnswer.{AnchorsAnswer}
 use Rattle.chain.specs.ChainEntries.{ChainBuffers, chainReply}
-use Rattle.placing_over.specs.Lying.{AnchorsLie, TablesLie}
+use Rattle.placing_over.specs.Lying.{AnchorsLie}
 
 -- both files are accepted, each lent buffer has full size, and the anchors lie in `numbers`
 pub record Taken (graph file : List ℕ) (b : ChainBuffers) (numbers : List ℕ) (r : AnchorsAnswer) : Type 0 where
@@ -29,19 +27,9 @@ pub record Begun (graph file : List ℕ) (b : ChainBuffers) (numbers : List ℕ)
   pub takes : r .number ≡ 0 → Taken graph file b numbers r
   pub refuses : r .number ≢ 0 → chainReply graph file b ≡ refused (r .number) (r .file) (r .place)
 
--- some graph is accepted
-pub record SomeGraph (graph : List ℕ) : Type 0 where
-  pub parsed : Parsed
-  pub found : graphOf graph ≡ good parsed
-
 -- some graph is accepted, and the numbers of some anchors over it lie there
 pub record SomeRead (graph : List ℕ) (count : ℕ) (numbers : List ℕ) : Type 0 where
   pub parsed : Parsed
   pub found : graphOf graph ≡ good parsed
   pub a : AnchorSet
   pub anchors : AnchorsLie (parsed .graph) a count numbers
-
--- the graph lies there, with its tables at the front of their buffers, by the numbers of the reader's answer
-abbrev pub Ready : Graph → List ℕ → List ℕ → List ℕ → List ℕ → List ℕ → GraphAnswer → Type 0
-Ready g lengths paths reach distance closed r =
-    TablesLie g (r .vertices) (r .paths) lengths paths (take (tableRow * r .vertices) reach) (take (tableRow * r .vertices) distance) (take (r .vertices) closed)

@@ -1,30 +1,22 @@
-// What the chaining entries share: the two files are read and the tables made, whichever engine follows, and the answer is given. No engine
-// stands below this crate.
+// What the chaining entries share: how a call on both files begins, whichever engine follows, and the answers. No engine stands below this crate.
 
 use anchors_read::AnchorsAnswer;
 use anchors_read::read_anchors;
-use graph_read::GraphAnswer;
-use graph_read::read_graph;
 use placing_over::over::Placement;
-use tables_make::make::make_tables;
-use tables_make::make::number_zeros;
-use tables_make::make::path_zeros;
 use wire::refusals::SMALL_BUFFER;
 use wire::sizes::FULL_CHAIN;
 use wire::sizes::FULL_SCORES;
-use wire::sizes::ROW;
 ghost use mathlib.Core.Path.{_≡_};
 ghost use Prim.Native.Nat.{_≤_};
 ghost use lib.ListN.{length};
-ghost use Rattle.wire.specs.Sizes.{fullLetters, fullLengths, fullPaths, fullTable, fullClosed, fullAnchors};
-ghost use Rattle.graph.specs.Reading.{Parsed, graphOf};
-ghost use Rattle.wire.specs.Found.{good};
+ghost use Rattle.wire.specs.Sizes.{fullLetters, fullAnchors};
 ghost use Rattle.chain.specs.ChainEntries.{roomForChain};
 ghost use Rattle.tables_make.specs.Made.{zeros};
 ghost use Rattle.placing.specs.Answer.{refusalOf, placedOf};
-ghost use Rattle.placing.specs.Begun.{Begun, SomeGraph, Ready};
+ghost use Rattle.placing.specs.Begun.{Begun};
 
 // Number, file and place; then the anchors of the file, the greatest score, the rounds and the chain's length.
+#[repr(C)]
 pub struct ChainAnswer {
     pub number: u32,
     pub file: u32,
@@ -104,39 +96,4 @@ pub fn begin(
         };
     }
     read_anchors(graph, file, letters, numbers)
-}
-
-// Reads an accepted graph file and makes its tables, at the front of their buffers. `letters` is room to work in.
-pub fn make_ready(
-    graph: &[u8],
-    letters: &mut [u8],
-    lengths: &mut [u32],
-    paths: &mut [u32],
-    reach: &mut [u32],
-    distance: &mut [u32],
-    closed: &mut [u32],
-) -> GraphAnswer
-    requires { ⌜ SomeGraph (now graph) ⌝ }
-    requires { ⌜ (fullLetters ≤ length (now letters)) × (fullLengths ≤ length (now lengths)) × (fullPaths ≤ length (now paths)) ⌝ }
-    requires { ⌜ (fullTable ≤ length (now reach)) × (fullTable ≤ length (now distance)) × (fullClosed ≤ length (now closed)) ⌝ }
-    ensures { λ r. ⌜ ((p : Parsed) → graphOf (now (graph .entry)) ≡ good p
-        → Ready (p .graph) (now (lengths .exit)) (now (paths .exit)) (now (reach .exit)) (now (distance .exit)) (now (closed .exit)) r) ⌝ }
-{
-    let mut edges = number_zeros();
-    let mut counts = path_zeros();
-    let g = read_graph(graph, letters, lengths, &mut edges, paths, &mut counts);
-    let n = g.vertices as usize;
-    let cells = ROW * n;
-    make_tables(
-        n,
-        g.edges as usize,
-        lengths,
-        &edges,
-        paths,
-        &counts,
-        &mut reach[..cells],
-        &mut distance[..cells],
-        &mut closed[..n],
-    );
-    g
 }

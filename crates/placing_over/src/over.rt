@@ -1,7 +1,7 @@
 // One anchor file over a graph whose tables are made: what every engine does after its scores.
 use named_chain::list_chain;
-use wire::lent::zero_rest_u32;
 use wire::sizes::FULL_SCORES;
+use wire_lent::zero_rest_u32;
 ghost use mathlib.Core.Path.{_≡_};
 ghost use Prim.Native.Nat.{_≤_};
 ghost use lib.ListN.{length, take};

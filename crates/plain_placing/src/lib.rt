@@ -4,16 +4,15 @@ use placing::ChainAnswer;
 use placing::acceptance;
 use placing::anchor_number_zeros;
 use placing::begin;
-use placing::make_ready;
 use placing::refusal;
 use placing_over::over::Placement;
 use placing_over::over::anchor_zeros;
-use placing_over::over::lay_chain;
-use plain_engine::plain_scores;
+use plain_chain::plain_chain;
 use steps::ends::fill_ends;
 use tables_make::make::cell_zeros;
 use tables_make::make::letter_zeros;
 use tables_make::make::vertex_zeros;
+use tables_ready::make_ready;
 use wire::sizes::ROW;
 ghost use mathlib.Core.Path.{_≡_};
 ghost use Prim.Native.Nat.{_≤_};
@@ -57,27 +56,10 @@ pub fn plain_over(
     let mut ds = anchor_zeros();
     fill_ends(numbers, count, &mut us, &mut ys, &mut ds);
     let mut row = vertex_zeros();
-    plain_scores(
+    plain_chain(
         n,
         k,
         r,
-        count,
-        lengths,
-        paths,
-        reach,
-        distance,
-        closed,
-        numbers,
-        &us,
-        &ys,
-        &ds,
-        &mut row[..n],
-        &mut scores[..count],
-    );
-    lay_chain(
-        0,
-        n,
-        k,
         count,
         lengths,
         paths,

@@ -1,3 +1,2 @@
-// What both engines share beside the step: the row of one vertex, and where the anchors end.
-pub mod row; // row.rt: the row of one vertex
+// What both engines share beside the step: where the anchors end. Its definitions and laws are those of steps and scores over a setting.
 pub mod ends; // ends.rt: where the anchors end

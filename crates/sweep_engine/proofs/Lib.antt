@@ -1,5 +1,3 @@
--- The laws of the sweep: BestLaws the greatest of a score and all candidates, SweepLow how high its scores come, SweepHeld that it leaves the best scores, SweepTurns its loops.
-pub mod BestLaws
-pub mod SweepLow
+-- The laws of the sweep: SweepHeld that it leaves the best scores, SweepTurns how its loop over rounds begins.
 pub mod SweepHeld
 pub mod SweepTurns

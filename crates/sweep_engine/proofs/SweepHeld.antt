@@ -24,7 +24,8 @@ use Rattle.chain.specs.Sweep.{IsSteps, weights, stepLinks, sweepRound, Swept, n
 use Rattle.chain.proofs.StepLaws.{Sound, good-sound}
 use Rattle.chain.proofs.SweepLaws.{SweptWell, sweep-settles, swept-well}
 use Rattle.steps.specs.Setting.{Setting, anchorOf, stepOf, Holds}
-use Rattle.sweep_engine.specs.Sweeping.{ruleOf, roundOf, weightsOf, SweptIn, empty, made}
+use Rattle.sweep_round.specs.Round.{ruleOf, roundOf}
+use Rattle.sweep_engine.specs.Sweeping.{weightsOf, SweptIn, empty, made}
 use Rattle.steps.proofs.EachLaws.{each-length, each-at}
 use Rattle.steps.proofs.SettingLaws.{held-not, held-step}
 

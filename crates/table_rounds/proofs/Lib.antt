@@ -1,4 +1,3 @@
 -- The laws that the proofs of the rounds' code cite.
 pub mod Relaxing
 pub mod Sweeping
-pub mod Starts

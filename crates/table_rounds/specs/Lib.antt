@@ -1,3 +1,2 @@
 -- The definitions that the contracts of the rounds' code cite.
 pub mod Held
-pub mod Starting

@@ -1,3 +1,2 @@
-// The rounds of the tables over content that lies in buffers: reach and distance.
+// The rounds of the reach table over content that lies in buffers; specs has the rules of every table's rounds.
 pub mod reach; // reach.rt: the reach table
-pub mod distance; // distance.rt: the distance table

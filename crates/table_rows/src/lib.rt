@@ -1,3 +1,2 @@
-// What a row of a table is made from: its sixteen cells, and the edges into its vertex.
-pub mod rows; // rows.rt: a row of sixteen cells
-pub mod targets; // targets.rt: edges listed by the vertex that they go into
+// The cells of a table: the greater and the nearer of two, what an edge brings, and a row of sixteen written back.
+pub mod rows; // rows.rt: cells, and a row of sixteen of them

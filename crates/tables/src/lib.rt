@@ -7,23 +7,23 @@ use tables_make::make::make_tables;
 use tables_make::make::number_zeros;
 use tables_make::make::path_zeros;
 use tables_make::make::vertex_zeros;
-use wire::lent::zero_rest_u32;
 use wire::refusals::SMALL_BUFFER;
 use wire::sizes::FULL_CLOSED;
 use wire::sizes::FULL_TABLE;
 use wire::sizes::ROW;
+use wire_lent::zero_rest_u32;
 ghost use mathlib.Core.Path.{_≡_};
-ghost use Prim.Native.Nat.{ℕ, _*_, _≤_};
-ghost use lib.ListN.{length, getD};
-ghost use Rattle.wire.specs.Sizes.{tableRow, fullTable, fullClosed};
+ghost use Prim.Native.Nat.{_*_, _≤_};
+ghost use lib.ListN.{length};
+ghost use Rattle.wire.specs.Sizes.{fullTable, fullClosed};
 ghost use Rattle.graph.specs.Content.{Graph, pathCount};
-ghost use Rattle.cover.specs.TableEntries.{IsTables, TableBuffers, roomForTables};
-ghost use Rattle.table_rows.specs.HeldEdges.{Linked};
+ghost use Rattle.cover.specs.TableEntries.{roomForTables};
 ghost use Rattle.table_rounds.specs.Held.{Holds};
-ghost use Rattle.tables_make.specs.Made.{zeros, Content, made};
+ghost use Rattle.tables_make.specs.Made.{Content, made};
 ghost use Rattle.tables.specs.Answer.{refusalOf, Tabled, Answered};
 
 // Number, file and place; then of an accepted file n, K and the rounds of the two tables.
+#[repr(C)]
 pub struct TablesAnswer {
     pub number: u32,
     pub file: u32,

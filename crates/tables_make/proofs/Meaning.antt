@@ -36,8 +36,9 @@ use Rattle.cover.proofs.TablesThere.{walk-begins, walk-keeps, tables-made}
 use Rattle.table_rows.specs.Lists.{Listed}
 use Rattle.table_rows.specs.HeldEdges.{target, Held, Linked}
 use Rattle.table_rounds.specs.Held.{labelLength, pathIn, PathsHeld, Holds, heldLinks, raise, raiseRound, near, nearRow, nearRound, onward, onwardRow, onwardRound, Fitting, Settling}
-use Rattle.closed_rounds.specs.Closing.{sixteenStart, backBy, ClosedBy, Closable}
-use Rattle.table_rounds.proofs.Starts.{table-ext, homesIn}
+use Rattle.closed_rounds.specs.Closing.{sixteenStart, ClosedBy, Closable}
+use Rattle.walk_back.specs.Back.{backBy}
+use Rattle.table_starts.proofs.Starts.{table-ext, homesIn}
 use Rattle.tables_make.proofs.Same.{gather-same, row-alike}
 
 -- the start of the reach table

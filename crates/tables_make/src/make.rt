@@ -1,11 +1,11 @@
 // Making the tables of a graph whose content lies in buffers.
+use crate::targets::list_by_target;
 use closed_rounds::closed::closed_walks;
-use table_rounds::distance::finish_distance;
-use table_rounds::distance::settle_distance;
-use table_rounds::distance::start_distance;
+use distance_rounds::settle_distance;
 use table_rounds::reach::settle_reach;
-use table_rounds::reach::start_reach;
-use table_rows::targets::list_by_target;
+use table_starts::distance::finish_distance;
+use table_starts::distance::start_distance;
+use table_starts::reach::start_reach;
 use wire::sizes::ROW;
 ghost use mathlib.Core.Path.{_≡_};
 ghost use Prim.Native.Nat.{ℕ, _*_, _≤_};

@@ -10,11 +10,10 @@ use Rattle.chain.specs.ChainEntries.{ChainBuffers, chainReply, filledChain, IsS
 use Rattle.placing.specs.Answer.{Outcome}
 use Rattle.placing.specs.declared.ChainAnswer.{ChainAnswer}
 use Rattle.placing.proofs.Answering.{engines-agree}
-use Rattle.toadtrellis.specs.declared.ToadChain.{ToadChain}
-use Rattle.toadtrellis.specs.Promises.{chainAnswer, ChainFound}
+use Rattle.toadtrellis.specs.Promises.{ChainFound}
 
 -- the sweep's answer r and the plain pass's answer q have the same in all but the rounds, and leave the same in every place of the buffers
-pub record Audited (x y : ChainBuffers) (r q : ToadChain) : Type 0 where
+pub record Audited (x y : ChainBuffers) (r q : ChainAnswer) : Type 0 where
   pub buffers : x ≡ y
   pub number : r .number ≡ q .number
   pub file : r .file ≡ q .file
@@ -24,8 +23,8 @@ pub record Audited (x y : ChainBuffers) (r q : ToadChain) : Type 0 where
   pub long : r .length ≡ q .length
   pub none : q .rounds ≡ 0
 
-module _ (b x y : ChainBuffers) (r q : ToadChain) where
-  by-reply : (t : Reply Both) → Outcome IsSweep t b x (chainAnswer r) → Outcome IsPlain t b y (chainAnswer q) → Audited x y r q
+module _ (b x y : ChainBuffers) (r q : ChainAnswer) where
+  by-reply : (t : Reply Both) → Outcome IsSweep t b x r → Outcome IsPlain t b y q → Audited x y r q
   unfolding filledChain
   by-reply (accepted p) h k =
       let s = engines-agree (p .graph .graph) (p .anchors .set .anchors) (h .result) (k .result) (h .is) (k .is) in
@@ -41,7 +40,7 @@ module _ (b x y : ChainBuffers) (r q : ToadChain) where
         none = ap (λ (a : ChainAnswer). a .rounds) (k .answer) ∙ k .is .none;
       }
   by-reply (refused n f place) h k =
-      let e : chainAnswer r ≡ chainAnswer q = h .answer ∙ sym (k .answer) in
+      let e : r ≡ q = h .answer ∙ sym (k .answer) in
       record {
         buffers = h .buffers ∙ sym (k .buffers);
         number = ap (λ (a : ChainAnswer). a .number) e;
@@ -54,6 +53,6 @@ module _ (b x y : ChainBuffers) (r q : ToadChain) where
       }
 
 -- "The plain pass over pairs returns the same scores and chain."
-pub audit : (graph file : List ℕ) (b x y : ChainBuffers) (r q : ToadChain) → ChainFound IsSweep graph file b x r → ChainFound IsPlain graph file b y q
+pub audit : (graph file : List ℕ) (b x y : ChainBuffers) (r q : ChainAnswer) → ChainFound IsSweep graph file b x r → ChainFound IsPlain graph file b y q
     → Audited x y r q
 audit graph file b x y r q h k = by-reply b x y r q (chainReply graph file b) (h .outcome) (k .outcome)

@@ -15,11 +15,10 @@ use Rattle.chain.specs.Demands.{Demanded}
 use Rattle.chain.proofs.Demands.{sweep-demanded, plain-demanded}
 use Rattle.placing.specs.Answer.{Outcome}
 use Rattle.placing.specs.declared.ChainAnswer.{ChainAnswer}
-use Rattle.toadtrellis.specs.declared.ToadChain.{ToadChain}
-use Rattle.toadtrellis.specs.Promises.{chainAnswer, ChainFound}
+use Rattle.toadtrellis.specs.Promises.{ChainFound}
 
 -- a result that meets the demands lies in the buffers, and its numbers are in the answer
-pub record Met (Is : Graph → List Anchor → Result → Type 0) (g : Graph) (anchors : List Anchor) (b after : ChainBuffers) (r : ToadChain) : Type 0 where
+pub record Met (Is : Graph → List Anchor → Result → Type 0) (g : Graph) (anchors : List Anchor) (b after : ChainBuffers) (r : ChainAnswer) : Type 0 where
   pub result : Result
   pub is : Is g anchors result
   pub demanded : Demanded g anchors result
@@ -30,7 +29,7 @@ pub record Met (Is : Graph → List Anchor → Result → Type 0) (g : Graph) (a
   pub rounds : r .rounds ≡ result .rounds
   pub long : r .length ≡ length (result .chain)
 
-module _ (graph file : List ℕ) (b after : ChainBuffers) (r : ToadChain) (p : Both) (full : roomyChain b ≡ true) (both : bothReply graph file ≡ accepted p) where
+module _ (graph file : List ℕ) (b after : ChainBuffers) (r : ChainAnswer) (p : Both) (full : roomyChain b ≡ true) (both : bothReply graph file ≡ accepted p) where
   reply : chainReply graph file b ≡ accepted p
   unfolding chainReply
   reply = simp (full, both)
@@ -38,7 +37,7 @@ module _ (graph file : List ℕ) (b after : ChainBuffers) (r : ToadChain) (p : B
   met : (Is : Graph → List Anchor → Result → Type 0) → ((t : Result) → Is (p .graph .graph) (p .anchors .set .anchors) t → Demanded (p .graph .graph) (p .anchors .set .anchors) t)
       → ChainFound Is graph file b after r → Met Is (p .graph .graph) (p .anchors .set .anchors) b after r
   met Is D h =
-      let o = subst (λ (x : Reply Both). Outcome Is x b after (chainAnswer r)) reply (h .outcome) in
+      let o = subst (λ (x : Reply Both). Outcome Is x b after r) reply (h .outcome) in
       record {
         result = o .result;
         is = o .is;

@@ -1,72 +1,23 @@
 // The delivered library: its entries under the names for C and Rust (include/toadtrellis.h). A slice is a pointer and a length; an answer is a
-// struct by value. Each entry calls the layer's own and has the same promise, with no demand on its caller.
+// struct by value. Each entry calls the layer's own and has the same promise and the same answer, with no demand on its caller.
+use anchors_read::AnchorsAnswer;
 use anchors_read::read_anchors;
 use anchors_view::view::view;
+use anchors_write::WrittenAnchors;
 use anchors_write::write_anchors;
+use graph_read::GraphAnswer;
 use graph_read::read_graph;
+use graph_write::WrittenAnswer;
 use graph_write::write_graph;
+use placing::ChainAnswer;
 use plain_placing::plain;
 use sweep_placing::sweep;
+use tables::TablesAnswer;
 use tables::tables;
 ghost use Rattle.graph_content.specs.Used.{givenOf};
 ghost use lib.ListN.{length};
 ghost use Rattle.chain.specs.ChainEntries.{IsSweep, IsPlain};
 ghost use Rattle.toadtrellis.specs.Promises.{GraphRead, GraphWritten, AnchorsRead, AnchorsWritten, TablesMade, ChainFound, LettersFound};
-
-// Number, file and place; then vertices, letters of all labels, edges and paths.
-#[repr(C)]
-pub struct ToadGraph {
-    pub number: u32,
-    pub file: u32,
-    pub place: u32,
-    pub vertices: u32,
-    pub letters: u32,
-    pub edges: u32,
-    pub paths: u32,
-}
-
-// Number, file and place; then the bytes written.
-#[repr(C)]
-pub struct ToadWritten {
-    pub number: u32,
-    pub file: u32,
-    pub place: u32,
-    pub bytes: u32,
-}
-
-// Number, file and place; then the read's letters and the anchors.
-#[repr(C)]
-pub struct ToadAnchors {
-    pub number: u32,
-    pub file: u32,
-    pub place: u32,
-    pub letters: u32,
-    pub anchors: u32,
-}
-
-// Number, file and place; then vertices, paths and the rounds of the two tables.
-#[repr(C)]
-pub struct ToadTables {
-    pub number: u32,
-    pub file: u32,
-    pub place: u32,
-    pub vertices: u32,
-    pub paths: u32,
-    pub reach_rounds: u32,
-    pub distance_rounds: u32,
-}
-
-// Number, file and place; then the anchors of the file, the greatest score, the rounds and the chain's length.
-#[repr(C)]
-pub struct ToadChain {
-    pub number: u32,
-    pub file: u32,
-    pub place: u32,
-    pub anchors: u32,
-    pub score: u32,
-    pub rounds: u32,
-    pub length: u32,
-}
 
 // Where a part of the file named starts, and how long it is.
 #[repr(C)]
@@ -84,22 +35,13 @@ pub extern "C" fn toad_read_graph(
     edges: &mut [u32],
     paths: &mut [u32],
     counts: &mut [u32],
-) -> ToadGraph
+) -> GraphAnswer
     ensures { λ r. ⌜ GraphRead (now (file .entry))
         (record { letters = now (letters .entry); lengths = now (lengths .entry); edges = now (edges .entry); paths = now (paths .entry); counts = now (counts .entry) })
         (record { letters = now (letters .exit); lengths = now (lengths .exit); edges = now (edges .exit); paths = now (paths .exit); counts = now (counts .exit) })
         r ⌝ }
 {
-    let a = read_graph(file, letters, lengths, edges, paths, counts);
-    ToadGraph {
-        number: a.number,
-        file: a.file,
-        place: a.place,
-        vertices: a.vertices,
-        letters: a.letters,
-        edges: a.edges,
-        paths: a.paths,
-    }
+    read_graph(file, letters, lengths, edges, paths, counts)
 }
 
 // Writes the graph file of content: n, m and K, and the buffers.
@@ -114,18 +56,12 @@ pub extern "C" fn toad_write_graph(
     paths: &[u32],
     counts: &[u32],
     out: &mut [u8],
-) -> ToadWritten
+) -> WrittenAnswer
     ensures { λ r. ⌜ GraphWritten (givenOf n m k
         (now (letters .entry)) (now (lengths .entry)) (now (edges .entry)) (now (paths .entry)) (now (counts .entry)))
         (length (now (out .entry))) (now (out .entry)) (now (out .exit)) r ⌝ }
 {
-    let a = write_graph(n, m, k, letters, lengths, edges, paths, counts, out);
-    ToadWritten {
-        number: a.number,
-        file: a.file,
-        place: a.place,
-        bytes: a.bytes,
-    }
+    write_graph(n, m, k, letters, lengths, edges, paths, counts, out)
 }
 
 // Reads an anchor file over a graph file into the buffers.
@@ -135,20 +71,13 @@ pub extern "C" fn toad_read_anchors(
     file: &[u8],
     letters: &mut [u8],
     anchors: &mut [u32],
-) -> ToadAnchors
+) -> AnchorsAnswer
     ensures { λ r. ⌜ AnchorsRead (now (graph .entry)) (now (file .entry))
         (record { letters = now (letters .entry); anchors = now (anchors .entry) })
         (record { letters = now (letters .exit); anchors = now (anchors .exit) })
         r ⌝ }
 {
-    let a = read_anchors(graph, file, letters, anchors);
-    ToadAnchors {
-        number: a.number,
-        file: a.file,
-        place: a.place,
-        letters: a.letters,
-        anchors: a.anchors,
-    }
+    read_anchors(graph, file, letters, anchors)
 }
 
 // Writes the anchor file of content over a graph file: r and N, and the buffers.
@@ -160,18 +89,12 @@ pub extern "C" fn toad_write_anchors(
     anchors: &[u32],
     graph: &[u8],
     out: &mut [u8],
-) -> ToadWritten
+) -> WrittenAnchors
     ensures { λ w. ⌜ AnchorsWritten
         (record { r = r; n = n; buffers = record { letters = now (letters .entry); anchors = now (anchors .entry) } })
         (now (graph .entry)) (now (out .entry)) (now (out .exit)) w ⌝ }
 {
-    let a = write_anchors(r, n, letters, anchors, graph, out);
-    ToadWritten {
-        number: a.number,
-        file: a.file,
-        place: a.place,
-        bytes: a.bytes,
-    }
+    write_anchors(r, n, letters, anchors, graph, out)
 }
 
 // Makes the tables of a graph file: reach, distance and closed walks.
@@ -181,22 +104,13 @@ pub extern "C" fn toad_tables(
     reach: &mut [u32],
     distance: &mut [u32],
     closed: &mut [u32],
-) -> ToadTables
+) -> TablesAnswer
     ensures { λ r. ⌜ TablesMade (now (file .entry))
         (record { reach = now (reach .entry); distance = now (distance .entry); closed = now (closed .entry) })
         (record { reach = now (reach .exit); distance = now (distance .exit); closed = now (closed .exit) })
         r ⌝ }
 {
-    let a = tables(file, reach, distance, closed);
-    ToadTables {
-        number: a.number,
-        file: a.file,
-        place: a.place,
-        vertices: a.vertices,
-        paths: a.paths,
-        reach_rounds: a.reachrounds,
-        distance_rounds: a.distancerounds,
-    }
+    tables(file, reach, distance, closed)
 }
 
 // The sweep: the best score of all chains ending at each anchor, and the chain that is returned.
@@ -206,22 +120,13 @@ pub extern "C" fn toad_sweep(
     file: &[u8],
     scores: &mut [u32],
     chain: &mut [u32],
-) -> ToadChain
+) -> ChainAnswer
     ensures { λ r. ⌜ ChainFound IsSweep (now (graph .entry)) (now (file .entry))
         (record { scores = now (scores .entry); chain = now (chain .entry) })
         (record { scores = now (scores .exit); chain = now (chain .exit) })
         r ⌝ }
 {
-    let a = sweep(graph, file, scores, chain);
-    ToadChain {
-        number: a.number,
-        file: a.file,
-        place: a.place,
-        anchors: a.anchors,
-        score: a.score,
-        rounds: a.rounds,
-        length: a.length,
-    }
+    sweep(graph, file, scores, chain)
 }
 
 // The plain pass, which audits the sweep: the same scores and chain, with no rounds.
@@ -231,22 +136,13 @@ pub extern "C" fn toad_plain(
     file: &[u8],
     scores: &mut [u32],
     chain: &mut [u32],
-) -> ToadChain
+) -> ChainAnswer
     ensures { λ r. ⌜ ChainFound IsPlain (now (graph .entry)) (now (file .entry))
         (record { scores = now (scores .entry); chain = now (chain .entry) })
         (record { scores = now (scores .exit); chain = now (chain .exit) })
         r ⌝ }
 {
-    let a = plain(graph, file, scores, chain);
-    ToadChain {
-        number: a.number,
-        file: a.file,
-        place: a.place,
-        anchors: a.anchors,
-        score: a.score,
-        rounds: a.rounds,
-        length: a.length,
-    }
+    plain(graph, file, scores, chain)
 }
 
 // Where the letters of one anchor stand in the file named, 1 graph or 2 anchors.

@@ -3,5 +3,4 @@
 pub mod refusals; // refusals.rt: the refusal numbers
 pub mod sizes; // sizes.rt: ranges and full sizes
 pub mod numbers; // numbers.rt: a number is read at a cursor, counted, and written
-pub mod letters; // letters.rt: the letter class of a byte, when two letters agree, letters written
-pub mod lent; // lent.rt: the unused places of a lent buffer
+pub mod letters; // letters.rt: the class of a byte

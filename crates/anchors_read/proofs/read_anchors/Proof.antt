@@ -18,10 +18,10 @@ use Rattle.anchors_read.proofs.read_anchors.Reads as reads
 use Rattle.anchors_read.proofs.read_anchors.Lts as lts
 use Rattle.anchors_check.proofs.check_anchors.Reads as check-anchors-reads
 use Rattle.anchors_read.proofs.acceptance.Reads as acceptance-reads
-use Rattle.anchors_read.proofs.fills.fill_anchors.Reads as fill-anchors-reads
-use Rattle.anchors_read.proofs.fills.fill_read.Reads as fill-read-reads
+use Rattle.anchors_fill.proofs.fill_anchors.Reads as fill-anchors-reads
+use Rattle.anchors_fill.proofs.fill_read.Reads as fill-read-reads
 use Rattle.anchors_read.proofs.refusal.Reads as refusal-reads
-use Rattle.anchors_parts.proofs.rooms.roomy.Reads as roomy-reads
+use Rattle.anchors_rules.proofs.rooms.roomy.Reads as roomy-reads
 
 -- the buffers as they were lent
 abbrev lent : tie.Start → AnchorBuffers

@@ -15,17 +15,17 @@ use Rattle.anchors_parts.specs.LabelTables.{LabelsAt, contentOf}
 use Rattle.anchors.proofs.AnchorRooms.{full-buffers}
 use Rattle.anchors.proofs.AnchorWriting.{content-ranged}
 use Rattle.anchors_check.proofs.BothLaws.{checked-fault, graph-told}
-use Rattle.anchors_content.proofs.Sizing.{bytes-length}
+use Rattle.anchors_bytes.proofs.Sizing.{bytes-length}
 use Rattle.anchors_write.proofs.Promised.{small-written, graph-written, content-written, long-written, short-written, done-written}
 use borrow.Author.Needs.{needs}
 use Rattle.anchors_write.proofs.write_anchors.Statement.{statement}
 use Rattle.anchors_write.proofs.write_anchors.Tie as tie
 use Rattle.anchors_write.proofs.write_anchors.Reads as reads
 use Rattle.anchors_write.proofs.write_anchors.Lts as lts
-use Rattle.anchors_content.proofs.bytes.anchors_size.Reads as anchors-size-reads
-use Rattle.anchors_content.proofs.bytes.put_anchors.Reads as put-anchors-reads
+use Rattle.anchors_bytes.proofs.anchors_size.Reads as anchors-size-reads
+use Rattle.anchors_bytes.proofs.put_anchors.Reads as put-anchors-reads
 use Rattle.anchors_content.proofs.content.content_fault.Reads as content-fault-reads
-use Rattle.anchors_parts.proofs.rooms.roomy.Reads as roomy-reads
+use Rattle.anchors_rules.proofs.rooms.roomy.Reads as roomy-reads
 use Rattle.anchors_write.proofs.refusal.Reads as refusal-reads
 use Rattle.graph_check.proofs.check_graph.Reads as check-graph-reads
 

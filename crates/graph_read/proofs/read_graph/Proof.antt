@@ -15,8 +15,8 @@ use Rattle.graph_read.proofs.read_graph.Reads as reads
 use Rattle.graph_read.proofs.read_graph.Lts as lts
 use Rattle.graph_check.proofs.check_graph.Reads as check-graph-reads
 use Rattle.graph_read.proofs.acceptance.Reads as acceptance-reads
-use Rattle.graph_fill.proofs.edges.fill_edges.Reads as fill-edges-reads
-use Rattle.graph_fill.proofs.labels.fill_labels.Reads as fill-labels-reads
+use Rattle.graph_fill_front.proofs.edges.fill_edges.Reads as fill-edges-reads
+use Rattle.graph_fill_front.proofs.labels.fill_labels.Reads as fill-labels-reads
 use Rattle.graph_fill.proofs.paths.fill_paths.Reads as fill-paths-reads
 use Rattle.graph_read.proofs.refusal.Reads as refusal-reads
 use Rattle.graph_rules.proofs.rooms.roomy.Reads as roomy-reads

@@ -14,10 +14,10 @@ use Rattle.graph_write.proofs.write_graph.Statement.{statement}
 use Rattle.graph_write.proofs.write_graph.Tie as tie
 use Rattle.graph_write.proofs.write_graph.Reads as reads
 use Rattle.graph_write.proofs.write_graph.Lts as lts
-use Rattle.graph_content.proofs.content_fault.Reads as content-fault-reads
+use Rattle.graph_faults.proofs.content_fault.Reads as content-fault-reads
 use Rattle.graph_rules.proofs.rooms.roomy.Reads as roomy-reads
-use Rattle.graph_bytes.proofs.graph_size.Reads as graph-size-reads
-use Rattle.graph_bytes.proofs.put_graph.Reads as put-graph-reads
+use Rattle.graph_file_bytes.proofs.graph_size.Reads as graph-size-reads
+use Rattle.graph_file_bytes.proofs.put_graph.Reads as put-graph-reads
 use Rattle.graph_write.proofs.refusal.Reads as refusal-reads
 
 -- helpers

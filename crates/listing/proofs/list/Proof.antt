@@ -1,17 +1,15 @@
-use Prim.Native.Nat.{_≤_}
-use mathlib.Core.Path.{_≡_, sym}
+use mathlib.Core.Path.{_≡_}
 use mathlib.Core.Bool.{true}
-use lib.ListN.{length, take, length-take}
-use lib.Seq.{length-take-le}
+use lib.ListN.{length}
 use native.Mathlib.Omega.{arith}
 use native.Mathlib.Nat.{le-of-eq}
 use denote.Ref.{now}
 use Rattle.wire.specs.Sizes.{fullAnchors, fullScores, fullChain}
-use Rattle.listing_text.specs.Lines.{Numbered}
+use Rattle.listing_result.specs.Showing.{SomeShown}
 use Rattle.anchors.specs.AnchorEntries.{AnchorBuffers, roomyAnchors}
 use Rattle.chain.specs.ChainEntries.{ChainBuffers, roomyChain}
 use Rattle.placing.proofs.Reading.{full-anchors}
-use Rattle.listing.proofs.Showing.{Taken, full-roomy, refused-listed, zero-taken, shown-fits, shown-numbered, found-listed}
+use Rattle.listing.proofs.Showing.{Taken, full-roomy, refused-listed, zero-taken, some-shown, found-listed}
 use borrow.Author.Needs.{needs}
 use Rattle.listing.proofs.list.Statement.{statement}
 use Rattle.listing.proofs.list.Tie as tie
@@ -21,8 +19,8 @@ use Rattle.anchors_read.proofs.read_anchors.Reads as read-anchors-reads
 use Rattle.listing.proofs.anchors_room.Reads as anchors-room-reads
 use Rattle.listing.proofs.chain_room.Reads as chain-room-reads
 use Rattle.listing.proofs.letters_room.Reads as letters-room-reads
-use Rattle.listing_text.proofs.put_listing.Reads as put-listing-reads
-use Rattle.listing_text.proofs.put_refused.Reads as put-refused-reads
+use Rattle.listing_result.proofs.put_result.Reads as put-result-reads
+use Rattle.listing_lines.proofs.put_refused.Reads as put-refused-reads
 use Rattle.sweep_placing.proofs.sweep.Reads as sweep-reads
 
 -- the sweep's buffers, before and after: from after that call, the rooms are 3 and 4 back, and the start 8
@@ -60,16 +58,13 @@ chain-long c = omega (arith, c .sweep .kept, c .before .before .before .chain-ro
 numbers-long : (c : tie.After-read-anchors) → length (afterNumbers c .anchors) ≡ fullAnchors
 numbers-long c = omega (arith, c .read-anchors .kept, c .before .before .before .anchors-room .ensures)
 
--- the chain's length is within its room, and so is N: the sweep is 9 back from the reader
-fits : (c : tie.After-read-anchors) → let k = c .before .before .before .before .before .before .before .before .before in (k .sweep .result .length ≤ fullChain) × (k .sweep .result .anchors ≤ fullChain)
-fits c =
+-- the sweep is 9 back from the reader
+shown : (c : tie.After-read-anchors) → let k = c .before .before .before .before .before .before .before .before .before in
+    let r = k .sweep .result in
+    SomeShown (r .anchors) (r .score) (r .rounds) (r .length) (afterNumbers c .anchors) (after k .scores) (after k .chain)
+shown c =
     let k = c .before .before .before .before .before .before .before .before .before in
-    shown-fits _ _ (own k) (after k) (k .sweep .result) (taken (c .before .before .before .before .before)) (ownNumbers c) (afterNumbers c) (c .read-anchors .result) (fullNumbers c) (c .read-anchors .ensures) (scores-long k) (chain-long k) (numbers-long c)
-
-numbered : (c : tie.After-read-anchors) → let k = c .before .before .before .before .before .before .before .before .before in Numbered (afterNumbers c .anchors) (after k .scores) (take (k .sweep .result .length) (after k .chain))
-numbered c =
-    let k = c .before .before .before .before .before .before .before .before .before in
-    shown-numbered _ _ (own k) (after k) (k .sweep .result) (taken (c .before .before .before .before .before)) (ownNumbers c) (afterNumbers c) (c .read-anchors .result) (fullNumbers c) (c .read-anchors .ensures) (scores-long k) (chain-long k) (numbers-long c)
+    some-shown _ _ (own k) (after k) (k .sweep .result) (taken (c .before .before .before .before .before)) (ownNumbers c) (afterNumbers c) (c .read-anchors .result) (fullNumbers c) (c .read-anchors .ensures) (scores-long k) (chain-long k) (numbers-long c)
 
 -- src/lib.rt:80:22
 chain-room-requires : tie.Need-chain-room-requires
@@ -126,48 +121,32 @@ slice-aggregate-read-anchors-2 c = search needs
 read-anchors-requires : tie.Need-read-anchors-requires
 read-anchors-requires c κs = search needs
 
--- src/lib.rt:89:17
-cast-count : tie.Need-cast-count
-cast-count c = search needs
-
 -- src/lib.rt:95:9
-slice-aggregate-put-listing : tie.Need-slice-aggregate-put-listing
-slice-aggregate-put-listing c = search needs
+slice-aggregate-put-result : tie.Need-slice-aggregate-put-result
+slice-aggregate-put-result c = search needs
 
 -- src/lib.rt:96:9
-slice-aggregate-put-listing-2 : tie.Need-slice-aggregate-put-listing-2
-slice-aggregate-put-listing-2 c = search needs
+slice-aggregate-put-result-2 : tie.Need-slice-aggregate-put-result-2
+slice-aggregate-put-result-2 c = search needs
 
 -- src/lib.rt:97:9
-array-share-prefix-chain : tie.Need-array-share-prefix-chain
-array-share-prefix-chain c = let k = c .before .before .before .before .before .before in omega (arith, fits k, chain-long (k .before .before .before .before .before .before .before .before .before))
-
--- src/lib.rt:97:9
-slice-aggregate-put-listing-3 : tie.Need-slice-aggregate-put-listing-3
-slice-aggregate-put-listing-3 c = let k = c .before .before .before .before .before .before .before in sym (length-take-le _ _ (omega (arith, fits k, chain-long (k .before .before .before .before .before .before .before .before .before))))
+slice-aggregate-put-result-3 : tie.Need-slice-aggregate-put-result-3
+slice-aggregate-put-result-3 c = search needs
 
 -- src/lib.rt:90:5
-put-listing-requires : tie.Need-put-listing-requires
-put-listing-requires c κs =
-    let k = c .before .before .before .before .before .before .before in
-    let j = k .before .before .before .before .before .before .before .before .before in (
-      omega (arith, c .before .before .before .before .before .before .before .before .before .before .before .before .before .before .before .before .before .before .before .before .before .before .before .before .pre),
-      rw length-take (omega (arith, chain-long j)),
-      numbered k,
-    )
+put-result-requires : tie.Need-put-result-requires
+put-result-requires c κs = (c .before .before .before .before .before .before .before .before .before .before .before .before .before .before .before .before .before .before .before .before .before .before .before .pre, shown (c .before .before .before .before .before .before))
 
 -- src/lib.rt:76:1
 same-length-2 : tie.Need-same-length-2
-same-length-2 c = c .before .before .put-listing .kept .0
+same-length-2 c = c .before .before .put-result .kept .0
 
 -- src/lib.rt:76:1
 returns-2 : tie.Need-returns-2
 returns-2 c =
-    let k = c .before .before .before .before .before .before .before .before .before .before in
+    let k = c .before .before .before .before .before .before .before .before .before in
     let j = k .before .before .before .before .before .before .before .before .before in
-    let p = c .before .before .put-listing in
-    found-listed _ _ (own j) (after j) (j .sweep .result) (taken (k .before .before .before .before .before)) (ownNumbers k) (afterNumbers k) (k .read-anchors .result) (fullNumbers k) (k .read-anchors .ensures)
-    (scores-long j) (chain-long j) (numbers-long k) _ _ _ (record { count = p .ensures .0; bytes = p .ensures .1 })
+    found-listed _ _ (own j) (after j) (j .sweep .result) (taken (k .before .before .before .before .before)) (ownNumbers k) (afterNumbers k) (k .read-anchors .result) (fullNumbers k) (k .read-anchors .ensures) (scores-long j) (chain-long j) (numbers-long k) _ _ _ (c .before .before .put-result .ensures)
 
 pub list-spec : {M : Type 1} → statement M
 list-spec =
@@ -186,11 +165,9 @@ list-spec =
     slice-aggregate-read-anchors
     slice-aggregate-read-anchors-2
     read-anchors-requires
-    cast-count
-    slice-aggregate-put-listing
-    slice-aggregate-put-listing-2
-    array-share-prefix-chain
-    slice-aggregate-put-listing-3
-    put-listing-requires
+    slice-aggregate-put-result
+    slice-aggregate-put-result-2
+    slice-aggregate-put-result-3
+    put-result-requires
     same-length-2
     returns-2)

@@ -6,16 +6,18 @@ use native.Mathlib.Omega.{arith}
 use borrow.Author.Needs.{needs}
 use Rattle.wire.proofs.Rest.{rest-part, front-length}
 use Rattle.graph_bytes.proofs.Along.{Along, along-first, along-room, along-long}
-use Rattle.listing_text.specs.Lines.{anchorsWord, scoreWord, roundsWord, foundLine, linesIn}
-use Rattle.listing_text.proofs.Ending.{along-last}
-use Rattle.listing_text.proofs.Rooms.{told-most, lines-most}
+use Rattle.listing_lines.specs.Lines.{anchorsWord, scoreWord, roundsWord, foundLine}
+use Rattle.listing_text.specs.Lines.{linesIn}
+use Rattle.decimal_text.proofs.Ending.{along-last}
+use Rattle.listing_lines.proofs.Rooms.{told-most}
+use Rattle.listing_text.proofs.Rooms.{lines-most}
 use borrow.Author.Needs.{needs}
 use Rattle.listing_text.proofs.put_listing.Statement.{statement}
 use Rattle.listing_text.proofs.put_listing.Tie as tie
 use Rattle.listing_text.proofs.put_listing.Reads as reads
 use Rattle.listing_text.proofs.put_listing.Lts as lts
-use Rattle.listing_text.proofs.put_found.Reads as put-found-reads
-use Rattle.listing_text.proofs.text.put_lines.Reads as put-lines-reads
+use Rattle.listing_lines.proofs.put_found.Reads as put-found-reads
+use Rattle.listing_text.proofs.put_lines.Reads as put-lines-reads
 
 -- the first line, and the others
 abbrev first : tie.Start → List ℕ

@@ -5,7 +5,7 @@ use native.Mathlib.Omega.{arith}
 use borrow.Author.Needs.{needs}
 use Rattle.rounds.specs.Table.{entry}
 use Rattle.pair_step.specs.Pairs.{RowFits}
-use Rattle.named_chain.specs.Returning.{Lowest, GivesIn}
+use Rattle.score_giver.specs.Giver.{Lowest, GivesIn}
 use Rattle.steps.specs.Setting.{Setting, anchorOf, stepOf, settingOf}
 use Rattle.steps.proofs.RowLaws.{tables-prepared, tables-row}
 use Rattle.steps.proofs.SettingLaws.{anchor-fits, ends-fit, row-fits}

@@ -17,8 +17,8 @@ use Rattle.plain_engine.proofs.take_anchor.Statement.{statement}
 use Rattle.plain_engine.proofs.take_anchor.Tie as tie
 use Rattle.plain_engine.proofs.take_anchor.Reads as reads
 use Rattle.plain_engine.proofs.take_anchor.Lts as lts
-use Rattle.plain_engine.proofs.look_back.Reads as look-back-reads
-use Rattle.steps.proofs.row.row_for.Reads as row-for-reads
+use Rattle.plain_look.proofs.look_back.Reads as look-back-reads
+use Rattle.vertex_row.proofs.row_for.Reads as row-for-reads
 
 abbrev given : tie.Start → Setting
 given k = let a = k .args in settingOf (a .n) (a .k) (a .count) (a .lengths .now) (a .paths .now) (a .reach .now) (a .distance .now) (a .closed .now) (a .numbers .now) (a .us .now) (a .ys .now) (a .ds .now)

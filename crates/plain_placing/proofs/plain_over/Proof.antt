@@ -1,16 +1,11 @@
-use Prim.Native.Nat.{ℕ, _+_, _-_, _*_, _≤_, _<_}
-use mathlib.Core.Path.{_≡_, refl, sym, ap, _∙_, subst}
+use mathlib.Core.Path.{sym}
 use native.Mathlib.Omega.{arith}
-use lib.ListN.{length, getD, take, drop}
-use lib.Seq.{length-take-le, length-front}
 use Rattle.graph.specs.Content.{Graph}
 use Rattle.anchors.specs.Anchors.{AnchorSet}
-use Rattle.chain.specs.ChainEntries.{IsPlain}
 use Rattle.steps.specs.Setting.{Holds, Prepared, settingOf}
 use Rattle.tables_make.proofs.Rooms.{room-long, front-long}
 use Rattle.placing_over.specs.Lying.{Over}
 use Rattle.placing_over.proofs.Settings.{few-anchors, few-vertices, anchors-fit, over-holds}
-use Rattle.placing_over.proofs.Results.{part-taken, scored-front, laid-by}
 use borrow.Author.Needs.{needs}
 use Rattle.plain_placing.proofs.plain_over.Statement.{statement}
 use Rattle.plain_placing.proofs.plain_over.Tie as tie
@@ -32,13 +27,6 @@ prepared : (c : tie.After-fill-ends) → let s = c .before .before .before .befo
     Prepared (settingOf (s .args .n) (s .args .k) (s .args .count) (s .args .lengths .now) (s .args .paths .now) (s .args .reach .now) (s .args .distance .now) (s .args .closed .now) (s .args .numbers .now)
     (c .fill-ends .last .1 .1 .0) (c .fill-ends .last .1 .1 .1 .0) (c .fill-ends .last .1 .1 .1 .1 .0))
 prepared c = let P = c .before .before .before .before .before .before .before .before .before .before .before .before .before .before .before .pre .0 in record { g = P .g; a = P .a; holds = ended c (P .g) (P .a) (P .over) }
-
--- the engine's scores are as many as the anchors, and its row has a place for each vertex
-long : (c : tie.After-plain-scores) → length (c .plain-scores .last .1 .1 .1 .1 .1 .1 .1 .1 .1 .1 .1 .1 .1 .1 .0) ≡ c .before .before .before .before .before .before .before .before .before .before .before .before .before .before .before .before .before .before .before .before .before .before .before .before .before .args .count
-long c = let s = c .before .before .before .before .before .before .before .before .before .before .before .before .before .before .before .before .before .before .before .before .before .before .before .before .before in c .plain-scores .kept .1 .1 .1 .1 .1 .1 .1 .1 .1 .1 .1 .1 .1 .1 .0 ∙ length-take-le (s .args .count) (s .args .scores .now) (omega (arith, few-anchors (s .pre .0 .over), s .pre .1 .1 .0))
-
-wide : (c : tie.After-plain-scores) → length (c .plain-scores .last .1 .1 .1 .1 .1 .1 .1 .1 .1 .1 .1 .1 .1 .0) ≡ c .before .before .before .before .before .before .before .before .before .before .before .before .before .before .before .before .before .before .before .before .before .before .before .before .before .args .n
-wide c = let s = c .before .before .before .before .before .before .before .before .before .before .before .before .before .before .before .before .before .before .before .before .before .before .before .before .before in c .plain-scores .kept .1 .1 .1 .1 .1 .1 .1 .1 .1 .1 .1 .1 .1 .0 ∙ front-long 1024 (c .before .before .before .before .before .before .vertex-zeros .ensures) (s .args .n) (few-vertices (s .pre .0 .over))
 
 anchor-zeros-requires : tie.Need-anchor-zeros-requires
 anchor-zeros-requires c κs = search needs
@@ -67,60 +55,26 @@ fill-ends-requires c κs =
 vertex-zeros-requires : tie.Need-vertex-zeros-requires
 vertex-zeros-requires c κs = search needs
 
-slice-aggregate-plain-scores : tie.Need-slice-aggregate-plain-scores
-slice-aggregate-plain-scores c = search needs
+slice-aggregate-plain-chain : tie.Need-slice-aggregate-plain-chain
+slice-aggregate-plain-chain c = search needs
 
-slice-aggregate-plain-scores-2 : tie.Need-slice-aggregate-plain-scores-2
-slice-aggregate-plain-scores-2 c = search needs
+slice-aggregate-plain-chain-2 : tie.Need-slice-aggregate-plain-chain-2
+slice-aggregate-plain-chain-2 c = search needs
 
-slice-aggregate-plain-scores-3 : tie.Need-slice-aggregate-plain-scores-3
-slice-aggregate-plain-scores-3 c = search needs
+slice-aggregate-plain-chain-3 : tie.Need-slice-aggregate-plain-chain-3
+slice-aggregate-plain-chain-3 c = search needs
 
 array-borrow-prefix-row : tie.Need-array-borrow-prefix-row
 array-borrow-prefix-row c = search needs
 
-slice-aggregate-plain-scores-4 : tie.Need-slice-aggregate-plain-scores-4
-slice-aggregate-plain-scores-4 c = let s = c .before .before .before .before .before .before .before .before .before .before .before .before .before .before .before .before .before .before .before .before .before .before .before in sym (front-long 1024 (c .before .before .before .before .vertex-zeros .ensures) (s .args .n) (few-vertices (s .pre .0 .over)))
+slice-aggregate-plain-chain-4 : tie.Need-slice-aggregate-plain-chain-4
+slice-aggregate-plain-chain-4 c = let s = c .before .before .before .before .before .before .before .before .before .before .before .before .before .before .before .before .before .before .before .before .before .before .before in sym (front-long 1024 (c .before .before .before .before .vertex-zeros .ensures) (s .args .n) (few-vertices (s .pre .0 .over)))
 
-slice-relend-prefix-plain-scores : tie.Need-slice-relend-prefix-plain-scores
-slice-relend-prefix-plain-scores c = let s = c .before .before .before .before .before .before .before .before .before .before .before .before .before .before .before .before .before .before .before .before .before .before .before in omega (arith, few-anchors (s .pre .0 .over), s .pre .1 .1 .0)
-
-slice-aggregate-plain-scores-5 : tie.Need-slice-aggregate-plain-scores-5
-slice-aggregate-plain-scores-5 c = let s = c .before .before .before .before .before .before .before .before .before .before .before .before .before .before .before .before .before .before .before .before .before .before .before .before in sym (length-take-le (s .args .count) (s .args .scores .now) (omega (arith, few-anchors (s .pre .0 .over), s .pre .1 .1 .0)))
-
-plain-scores-requires : tie.Need-plain-scores-requires
-plain-scores-requires c κs =
-    let s = c .before .before .before .before .before .before .before .before .before .before .before .before .before .before .before .before .before .before .before .before .before .before .before .before in
-    let O = s .pre .0 .over in (
-      prepared (c .before .before .before .before .before .before .before .before .before),
-      ((s .pre .1 .0 .0, s .pre .1 .0 .1, few-anchors O), (front-long 1024 (c .before .before .before .before .before .vertex-zeros .ensures) (s .args .n) (few-vertices O), length-take-le (s .args .count) (s .args .scores .now) (omega (arith, few-anchors O, s .pre .1 .1 .0)))),
-    )
-
-slice-aggregate-lay-chain : tie.Need-slice-aggregate-lay-chain
-slice-aggregate-lay-chain c = search needs
-
-slice-aggregate-lay-chain-2 : tie.Need-slice-aggregate-lay-chain-2
-slice-aggregate-lay-chain-2 c = search needs
-
-slice-aggregate-lay-chain-3 : tie.Need-slice-aggregate-lay-chain-3
-slice-aggregate-lay-chain-3 c = search needs
-
-array-borrow-prefix-row-2 : tie.Need-array-borrow-prefix-row-2
-array-borrow-prefix-row-2 c =
-    let s = c .before .before .before .before .before .before .before .before .before .before .before .before .before .before .before .before .before .before .before .before .before .before .before .before .before .before .before .before .before .before .before in
-    let r = c .before .before .before .before .before .before in
-    omega (arith, few-vertices (s .pre .0 .over), room-long 1024 (c .before .before .before .before .before .before .before .before .before .before .before .before .vertex-zeros .ensures), length-front (c .before .before .before .before .before .before .before .before .before .before .before .before .vertex-zeros .result) (r .plain-scores .last .1 .1 .1 .1 .1 .1 .1 .1 .1 .1 .1 .1 .1 .0) (s .args .n) (r .plain-scores .kept .1 .1 .1 .1 .1 .1 .1 .1 .1 .1 .1 .1 .1 .0))
-
-slice-aggregate-lay-chain-4 : tie.Need-slice-aggregate-lay-chain-4
-slice-aggregate-lay-chain-4 c = let r = c .before .before .before .before .before .before .before in sym (ap length (part-taken (c .before .before .before .before .before .before .before .before .before .before .before .before .before .before .before .before .before .before .before .before .before .before .before .before .before .before .before .before .before .before .before .before .args .n) (r .plain-scores .last .1 .1 .1 .1 .1 .1 .1 .1 .1 .1 .1 .1 .1 .0) (c .before .before .before .before .before .before .before .before .before .before .before .before .before .vertex-zeros .result) (wide r)) ∙ wide r)
-
-lay-chain-requires : tie.Need-lay-chain-requires
-lay-chain-requires c κs =
-    let s = c .before .before .before .before .before .before .before .before .before .before .before .before .before .before .before .before .before .before .before .before .before .before .before .before .before .before .before .before .before .before .before .before .before .before in
-    let r = c .before .before .before .before .before .before .before .before .before in (
-      scored-front (r .plain-scores .last .1 .1 .1 .1 .1 .1 .1 .1 .1 .1 .1 .1 .1 .1 .0) (s .args .scores .now) (long r) (r .plain-scores .ensures) (prepared (c .before .before .before .before .before .before .before .before .before .before .before .before .before .before .before .before .before .before .before)),
-      (few-anchors (s .pre .0 .over), ap length (part-taken (s .args .n) (r .plain-scores .last .1 .1 .1 .1 .1 .1 .1 .1 .1 .1 .1 .1 .1 .0) (c .before .before .before .before .before .before .before .before .before .before .before .before .before .before .before .vertex-zeros .result) (wide r)) ∙ wide r, omega (arith, length-front (s .args .scores .now) (r .plain-scores .last .1 .1 .1 .1 .1 .1 .1 .1 .1 .1 .1 .1 .1 .1 .0) (s .args .count) (r .plain-scores .kept .1 .1 .1 .1 .1 .1 .1 .1 .1 .1 .1 .1 .1 .1 .0), s .pre .1 .1 .0), s .pre .1 .1 .1),
-    )
+plain-chain-requires : tie.Need-plain-chain-requires
+plain-chain-requires c κs =
+    let s = c .before .before .before .before .before .before .before .before .before .before .before .before .before .before .before .before .before .before .before .before .before .before .before .before .before in
+    let O = s .pre .0 .over in
+    (prepared (c .before .before .before .before .before .before .before .before .before .before), (s .pre .1 .0, (few-anchors O, front-long 1024 (c .before .before .before .before .before .before .vertex-zeros .ensures) (s .args .n) (few-vertices O), s .pre .1 .1 .0, s .pre .1 .1 .1)))
 
 same-length : tie.Need-same-length
 same-length c = search needs
@@ -129,11 +83,7 @@ same-length-2 : tie.Need-same-length-2
 same-length-2 c = search needs
 
 returns : tie.Need-returns
-returns c =
-    λ g a O.
-    let r = c .before .before .before .before .before .before .before .before .before .before .before .before .before .before .before in
-    let H = ended (c .before .before .before .before .before .before .before .before .before .before .before .before .before .before .before .before .before .before .before .before .before .before .before .before .before) g a O in
-    laid-by (r .plain-scores .last .1 .1 .1 .1 .1 .1 .1 .1 .1 .1 .1 .1 .1 .1 .0) (c .before .before .before .before .before .before .before .before .before .before .before .before .before .before .before .before .before .before .before .before .before .before .before .before .before .before .before .before .before .before .before .before .before .before .before .before .before .before .before .before .args .scores .now) (long r) (r .plain-scores .ensures) H 0 IsPlain (few-anchors O) (λ js score R. record { result = R; none = refl }) (c .before .before .before .before .before .lay-chain .ensures)
+returns c = λ g a O. c .before .before .before .before .before .plain-chain .ensures g a (ended (c .before .before .before .before .before .before .before .before .before .before .before .before .before .before .before .before) g a O)
 
 pub plain-over-spec : {M : Type 1} → statement M
 plain-over-spec =
@@ -147,20 +97,12 @@ plain-over-spec =
     slice-aggregate-fill-ends-3
     fill-ends-requires
     vertex-zeros-requires
-    slice-aggregate-plain-scores
-    slice-aggregate-plain-scores-2
-    slice-aggregate-plain-scores-3
+    slice-aggregate-plain-chain
+    slice-aggregate-plain-chain-2
+    slice-aggregate-plain-chain-3
     array-borrow-prefix-row
-    slice-aggregate-plain-scores-4
-    slice-relend-prefix-plain-scores
-    slice-aggregate-plain-scores-5
-    plain-scores-requires
-    slice-aggregate-lay-chain
-    slice-aggregate-lay-chain-2
-    slice-aggregate-lay-chain-3
-    array-borrow-prefix-row-2
-    slice-aggregate-lay-chain-4
-    lay-chain-requires
+    slice-aggregate-plain-chain-4
+    plain-chain-requires
     same-length
     same-length-2
     returns)

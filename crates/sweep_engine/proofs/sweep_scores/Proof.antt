@@ -3,16 +3,18 @@ use mathlib.Core.Path.{_≡_, sym, _∙_}
 use native.Mathlib.Omega.{arith}
 use lib.ListN.{length}
 use Rattle.rounds.proofs.Turns.{Going, Looping, going-few, loop-turn}
-use Rattle.sweep_engine.specs.Sweeping.{roundOf, weightsOf, made}
+use Rattle.sweep_round.specs.Round.{roundOf}
+use Rattle.sweep_engine.specs.Sweeping.{weightsOf, made}
 use Rattle.steps.specs.Setting.{settingOf}
 use Rattle.steps.specs.Scores.{ScoresLow}
-use Rattle.sweep_engine.proofs.SweepTurns.{swept-none, sweep-begins, round-low}
+use Rattle.sweep_round.proofs.RoundTurns.{round-low}
+use Rattle.sweep_engine.proofs.SweepTurns.{swept-none, sweep-begins}
 use Rattle.sweep_engine.proofs.sweep_scores.Statement.{statement}
 use Rattle.sweep_engine.proofs.sweep_scores.Tie as tie
 use Rattle.sweep_engine.proofs.sweep_scores.Reads as reads
 use Rattle.sweep_engine.proofs.sweep_scores.Lts as lts
 use Rattle.sweep_engine.proofs.start_scores.Reads as start-scores-reads
-use Rattle.sweep_engine.proofs.sweep_round.Reads as sweep-round-reads
+use Rattle.sweep_round.proofs.sweep_round.Reads as sweep-round-reads
 
 abbrev Inv-loop : tie.InvT-loop
 Inv-loop scores₀ row₀ n k count lengths paths reach distance closed numbers us ys ds rounds₀ changed₀ scores row rounds changed =

@@ -14,7 +14,7 @@ use Rattle.tables.proofs.lay_tables.Tie as tie
 use Rattle.tables.proofs.lay_tables.Reads as reads
 use Rattle.tables.proofs.lay_tables.Lts as lts
 use Rattle.tables_make.proofs.make.make_tables.Reads as make-tables-reads
-use Rattle.wire.proofs.lent.zero_rest_u32.Reads as zero-rest-u32-reads
+use Rattle.wire_lent.proofs.zero_rest_u32.Reads as zero-rest-u32-reads
 
 -- there are few vertices
 few : (s : tie.Start) → s .args .n ≤ 1024

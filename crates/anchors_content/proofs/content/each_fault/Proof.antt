@@ -7,14 +7,14 @@ use borrow.Author.Tests.{not-true, not-false}
 use Rattle.graph_content.proofs.Encoded.{left-all}
 use Rattle.anchors.specs.AnchorRules.{noAnchor}
 use Rattle.anchors_parts.specs.LabelTables.{contentOf}
-use Rattle.anchors_parts.specs.OneAnchor.{anchorOf}
+use Rattle.anchors_rules.specs.OneAnchor.{anchorOf}
 use Rattle.anchors_content.specs.FirstFaults.{eachFault}
 use Rattle.anchors_content.proofs.EachSteps.{each-over, each-own, each-order, each-more}
 use Rattle.anchors_content.proofs.content.each_fault.Statement.{statement}
 use Rattle.anchors_content.proofs.content.each_fault.Tie as tie
 use Rattle.anchors_content.proofs.content.each_fault.Reads as reads
 use Rattle.anchors_content.proofs.content.each_fault.Lts as lts
-use Rattle.anchors_parts.proofs.one.key_below.Reads as key-below-reads
+use Rattle.anchors_rules.proofs.rules.key_below.Reads as key-below-reads
 use Rattle.anchors_parts.proofs.one.own_fault.Reads as own-fault-reads
 use Rattle.anchors_content.proofs.content.anchor_in.Reads as anchor-in-reads
 

@@ -10,7 +10,8 @@ use Rattle.graph_parts.specs.Answers.{answered}
 use Rattle.anchors.specs.AnchorRules.{noAnchor}
 use Rattle.anchors.specs.AnchorReading.{numbersAt, anchorsFrom}
 use Rattle.anchors_parts.specs.LabelTables.{contentOf}
-use Rattle.anchors_parts.specs.OneAnchor.{anchorOf, eachRefused}
+use Rattle.anchors_rules.specs.OneAnchor.{anchorOf}
+use Rattle.anchors_parts.specs.ReadAnchor.{eachRefused}
 use Rattle.anchors_parts.proofs.EachLaws.{five-good, five-fault, fault-own, fault-order, fault-none, each-done, each-stop, each-bad, each-next}
 use Rattle.anchors_parts.proofs.each.check_each.Statement.{statement}
 use Rattle.anchors_parts.proofs.each.check_each.Tie as tie

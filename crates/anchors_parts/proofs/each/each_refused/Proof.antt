@@ -1,5 +1,5 @@
 use mathlib.Core.Path.{sym, ap}
-use Rattle.anchors_parts.specs.OneAnchor.{eachRefused}
+use Rattle.anchors_parts.specs.ReadAnchor.{eachRefused}
 use borrow.Author.Needs.{needs}
 use Rattle.anchors_parts.proofs.each.each_refused.Statement.{statement}
 use Rattle.anchors_parts.proofs.each.each_refused.Tie as tie

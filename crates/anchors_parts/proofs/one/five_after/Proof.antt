@@ -2,7 +2,7 @@ use mathlib.Core.Path.{_≡_, refl, sym, ap, _∙_}
 use native.Mathlib.Omega.{arith}
 use borrow.Author.Needs.{needs}
 use Rattle.anchors.specs.AnchorReading.{numbersAt}
-use Rattle.anchors_parts.specs.OneAnchor.{readFiveOf, numbersAfter}
+use Rattle.anchors_parts.specs.ReadAnchor.{readFiveOf, numbersAfter}
 use Rattle.anchors_parts.proofs.EachLaws.{five-good, five-fault, after-none, after-stop, after-more}
 use Rattle.anchors_parts.proofs.one.five_after.Statement.{statement}
 use Rattle.anchors_parts.proofs.one.five_after.Tie as tie

@@ -1,5 +1,5 @@
 use mathlib.Core.Path.{sym, ap}
-use Rattle.anchors_parts.specs.OneAnchor.{fiveRefused}
+use Rattle.anchors_parts.specs.ReadAnchor.{fiveRefused}
 use borrow.Author.Needs.{needs}
 use Rattle.anchors_parts.proofs.one.five_refused.Statement.{statement}
 use Rattle.anchors_parts.proofs.one.five_refused.Tie as tie

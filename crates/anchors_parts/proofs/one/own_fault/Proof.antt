@@ -10,7 +10,7 @@ use Rattle.wire.specs.Cases.{pick}
 use Rattle.wire.specs.Refusals.{lettersDiffer}
 use Rattle.anchors.specs.AnchorRules.{labelOf, lettersAgree, isInside, ownFault}
 use Rattle.anchors_parts.specs.LabelTables.{contentOf}
-use Rattle.anchors_parts.specs.OneAnchor.{anchorOf}
+use Rattle.anchors_rules.specs.OneAnchor.{anchorOf}
 use Rattle.anchors_parts.proofs.OneLaws.{own-vertex, own-outside, own-weight, own-letters, letters-lie, part-length}
 use Rattle.graph.proofs.Kept.{vertex-is}
 use Rattle.anchors.proofs.AnchorKept.{Inside, inside-is}
@@ -72,17 +72,17 @@ own : (k : tie.Else3)
 own k =
     let a = from-weight k .args in
     own-letters (contentOf (a .graph .now)) (take (a .r) (drop (a .read) (a .file .now))) (anchorOf (a .a)) (vertex (k .before .before .before .before .before .before))
-    (sym (inside-told (k .before .before .before)) ∙ not-false _ (k .before .before .if2 .left)) (sym (k .before .range-fault .ensures) ∙ k .if3 .left)
+    (sym (inside-told (k .before .before .before)) ∙ not-false _ (k .before .before .if2 .left)) (sym (k .before .weight-fault .ensures) ∙ k .if3 .left)
 
-agreed : (k : tie.After-parts-agree)
-    → k .parts-agree .result
-    ≡ lettersAgree (labelOf (contentOf (from-weight (k .before .before .before .before .before) .args .graph .now)) (from-weight (k .before .before .before .before .before) .args .a .v)) (take (from-weight (k .before .before .before .before .before) .args .r) (drop (from-weight (k .before .before .before .before .before) .args .read) (from-weight (k .before .before .before .before .before) .args .file .now))) (anchorOf (from-weight (k .before .before .before .before .before) .args .a))
+agreed : (k : tie.After-letters-match)
+    → k .letters-match .result
+    ≡ lettersAgree (labelOf (contentOf (from-weight (k .before .before) .args .graph .now)) (from-weight (k .before .before) .args .a .v)) (take (from-weight (k .before .before) .args .r) (drop (from-weight (k .before .before) .args .read) (from-weight (k .before .before) .args .file .now))) (anchorOf (from-weight (k .before .before) .args .a))
 agreed k =
-    let a = from-weight (k .before .before .before .before .before) .args in
-    let f = spot (k .before .before .before .before .before .before .before .before .before .before .before) in
-    k .parts-agree .ensures
-    ∙ sym (letters-lie (a .graph .now) (a .file .now) (contentOf (a .graph .now)) _ (getD (a .starts .now) (a .a .v - 1) 0) (a .read) (anchorOf (a .a)) (inside (k .before .before .before .before .before .before .before)) (lies-part _ _ _ (f .lies))
-    (ap (λ (n : ℕ). take n (drop (a .read) (a .file .now))) (part-length (a .file .now) (a .read) (a .r) (from-weight (k .before .before .before .before .before) .pre .1))))
+    let a = from-weight (k .before .before) .args in
+    let f = spot (k .before .before .before .before .before .before .before .before) in
+    k .letters-match .ensures
+    ∙ sym (letters-lie (a .graph .now) (a .file .now) (contentOf (a .graph .now)) _ (getD (a .starts .now) (a .a .v - 1) 0) (a .read) (anchorOf (a .a)) (inside (k .before .before .before .before)) (lies-part _ _ _ (f .lies))
+    (ap (λ (n : ℕ). take n (drop (a .read) (a .file .now))) (part-length (a .file .now) (a .read) (a .r) (from-weight (k .before .before) .pre .1))))
 
 is-vertex-requires : tie.Need-is-vertex-requires
 is-vertex-requires c κs = search needs
@@ -116,56 +116,37 @@ returns-2 c =
     sym (own-outside (contentOf (a .graph .now)) (take (a .r) (drop (a .read) (a .file .now))) (anchorOf (a .a)) (vertex (c .before .before .before .before))
     (sym (inside-told (c .before)) ∙ not-true _ (c .if2 .taken)))
 
-range-fault-requires : tie.Need-range-fault-requires
-range-fault-requires c κs = search needs
+weight-fault-requires : tie.Need-weight-fault-requires
+weight-fault-requires c κs = search needs
 
 returns-3 : tie.Need-returns-3
 returns-3 c =
     let s = c .before .before .before .before .before .before .before .before .before .before .before .before in
     let a = s .args in
     sym (own-weight (contentOf (a .graph .now)) (take (a .r) (drop (a .read) (a .file .now))) (anchorOf (a .a)) (vertex (c .before .before .before .before .before .before))
-    (sym (inside-told (c .before .before .before)) ∙ not-false _ (c .before .before .if2 .left)) (λ e. c .if3 .taken (c .before .range-fault .ensures ∙ e)))
+    (sym (inside-told (c .before .before .before)) ∙ not-false _ (c .before .before .if2 .left)) (λ e. c .if3 .taken (c .before .weight-fault .ensures ∙ e)))
 
-mul-label : tie.Need-mul-label
-mul-label c = search needs
+mul-letters-match : tie.Need-mul-letters-match
+mul-letters-match c = search needs
 
-shared-slice-read-label : tie.Need-shared-slice-read-label
-shared-slice-read-label c = spot (c .before .before .before .before .before .before .before) .inStarts
+shared-slice-read-letters-match : tie.Need-shared-slice-read-letters-match
+shared-slice-read-letters-match c = spot (c .before .before .before .before .before .before .before) .inStarts
 
-cast-label : tie.Need-cast-label
-cast-label c = record { fits = omega (arith, start-within (c .before .before .before)) }
+cast-letters-match : tie.Need-cast-letters-match
+cast-letters-match c = record { fits = omega (arith, start-within (c .before .before .before)) }
 
-sub-label : tie.Need-sub-label
-sub-label c = omega (arith, inside (c .before .before .before .before) .someX)
-
-cast-label-2 : tie.Need-cast-label-2
-cast-label-2 c = search needs
-
-add-label : tie.Need-add-label
-add-label c = record { fits = omega (arith, start-within (c .before .before .before .before)) }
-
-sub-letters : tie.Need-sub-letters
-sub-letters c = omega (arith, inside (c .before .before .before .before .before) .someC)
-
-cast-letters : tie.Need-cast-letters
-cast-letters c = search needs
-
-add-letters : tie.Need-add-letters
-add-letters c = search needs
-
-cast-parts-agree : tie.Need-cast-parts-agree
-cast-parts-agree c = search needs
-
-parts-agree-requires : tie.Need-parts-agree-requires
-parts-agree-requires c κs =
-    let k = c .before .before .before .before .before .before in
-    (omega (arith, start-within k), omega (arith, inside k .someC, inside k .someLength, inside k .inRead, part-length (from-weight (c .before .before .before .before) .args .file .now) (from-weight (c .before .before .before .before) .args .read) (from-weight (c .before .before .before .before) .args .r) (from-weight (c .before .before .before .before) .pre .1)))
+letters-match-requires : tie.Need-letters-match-requires
+letters-match-requires c κs =
+    let k = c .before .before .before in
+    let s = from-inside k in
+    let i = inside k in
+    (start-within k, (i .someC, omega (arith, i .someC, i .someLength, i .inRead, part-length (s .args .file .now) (s .args .read) (s .args .r) (s .pre .1))))
 
 returns-4 : tie.Need-returns-4
-returns-4 c = sym (own (c .before .before .before .before .before .before) ∙ ap (λ (b : Bool). pick b 0 lettersDiffer) (sym (agreed (c .before)) ∙ c .if4 .taken))
+returns-4 c = sym (own (c .before .before .before) ∙ ap (λ (b : Bool). pick b 0 lettersDiffer) (sym (agreed (c .before)) ∙ c .if4 .taken))
 
 returns-5 : tie.Need-returns-5
-returns-5 c = sym (own (c .before .before .before .before .before .before) ∙ ap (λ (b : Bool). pick b 0 lettersDiffer) (sym (agreed (c .before)) ∙ c .if4 .left))
+returns-5 c = sym (own (c .before .before .before) ∙ ap (λ (b : Bool). pick b 0 lettersDiffer) (sym (agreed (c .before)) ∙ c .if4 .left))
 
 pub own-fault-spec : {M : Type 1} → statement M
 own-fault-spec =
@@ -179,18 +160,11 @@ own-fault-spec =
     shared-slice-read-is-inside
     is-inside-requires
     returns-2
-    range-fault-requires
+    weight-fault-requires
     returns-3
-    mul-label
-    shared-slice-read-label
-    cast-label
-    sub-label
-    cast-label-2
-    add-label
-    sub-letters
-    cast-letters
-    add-letters
-    cast-parts-agree
-    parts-agree-requires
+    mul-letters-match
+    shared-slice-read-letters-match
+    cast-letters-match
+    letters-match-requires
     returns-4
     returns-5)

@@ -1,6 +1,6 @@
 use mathlib.Core.Path.{sym, ap, _∙_}
 use Rattle.anchors.specs.AnchorReading.{numbersAt}
-use Rattle.anchors_parts.specs.OneAnchor.{fiveRefused}
+use Rattle.anchors_parts.specs.ReadAnchor.{fiveRefused}
 use borrow.Author.Needs.{needs}
 use Rattle.anchors_parts.proofs.one.read_five.Statement.{statement}
 use Rattle.anchors_parts.proofs.one.read_five.Tie as tie

@@ -9,7 +9,7 @@ use Rattle.anchors.specs.Anchors.{anchorCount}
 use Rattle.anchors.specs.AnchorEntries.{Both, bothReply}
 use Rattle.anchors_check.specs.CheckedAnchors.{anchorSectionsOf}
 use Rattle.anchors_parts.specs.LabelTables.{LabelsAt}
-use Rattle.anchors_parts.specs.OneAnchor.{anchorOf}
+use Rattle.anchors_rules.specs.OneAnchor.{anchorOf}
 use Rattle.anchors.specs.View.{anchorNumbered, labelStart, labelView, readView, viewOf}
 use Rattle.anchors_view.specs.Viewed.{viewedOf}
 use Rattle.anchors_check.specs.declared.AnchorSections.{AnchorSections}

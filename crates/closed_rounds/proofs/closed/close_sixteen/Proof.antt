@@ -3,7 +3,8 @@ use mathlib.Core.Logic.{⊎-elim}
 use Rattle.rounds.specs.Rounds.{Rounds}
 use Rattle.rounds.proofs.Upto.{within}
 use Rattle.table_rounds.specs.Held.{onward, onwardRound, Settling}
-use Rattle.closed_rounds.specs.Closing.{sixteenStart, backBy, ClosedBy}
+use Rattle.closed_rounds.specs.Closing.{sixteenStart, ClosedBy}
+use Rattle.walk_back.specs.Back.{backBy}
 use Rattle.closed_rounds.proofs.Closes.{settling-last, Closes, closes-none, closes-past, closes-more, closes-all}
 use denote.Ref.{now}
 use lib.ListN.{length, getD, set, take, drop}
@@ -16,7 +17,7 @@ use Rattle.closed_rounds.proofs.closed.close_sixteen.Tie as tie
 use Rattle.closed_rounds.proofs.closed.close_sixteen.Reads as reads
 use Rattle.closed_rounds.proofs.closed.close_sixteen.Lts as lts
 use Rattle.closed_rounds.proofs.closed.start_sixteen.Reads as start-sixteen-reads
-use Rattle.closed_rounds.proofs.closed.walk_back.Reads as walk-back-reads
+use Rattle.walk_back.proofs.walk_back.Reads as walk-back-reads
 use Rattle.closed_rounds.proofs.closed.settle_walks.Reads as settle-walks-reads
 
 abbrev Inv-loop : tie.InvT-loop

@@ -1,4 +1,4 @@
-use Rattle.table_rounds.proofs.Starts.{home-same, home-apart}
+use Rattle.table_starts.proofs.Starts.{home-same, home-apart}
 use denote.Ref.{now}
 use lib.ListN.{length, getD, set, take, drop}
 use Prim.Native.Nat.{ℕ, zero, suc, _+_, _-_, _*_, _≤_, _<_, max}

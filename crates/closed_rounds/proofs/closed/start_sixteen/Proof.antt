@@ -1,7 +1,7 @@
 use Rattle.wire.proofs.Laying.{Filled, filled-none, filled-more}
 use Rattle.cover.proofs.TableLaws.{table-size}
 use Rattle.closed_rounds.specs.Closing.{sixteenStart}
-use Rattle.table_rounds.proofs.Starts.{filled-all}
+use Rattle.table_starts.proofs.Starts.{filled-all}
 use Rattle.closed_rounds.proofs.SixteenStarts.{sixteen-place}
 use denote.Ref.{now}
 use lib.ListN.{length, getD, set, take, drop}

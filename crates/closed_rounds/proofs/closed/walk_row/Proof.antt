@@ -17,8 +17,8 @@ use Rattle.closed_rounds.proofs.closed.walk_row.Statement.{statement}
 use Rattle.closed_rounds.proofs.closed.walk_row.Tie as tie
 use Rattle.closed_rounds.proofs.closed.walk_row.Reads as reads
 use Rattle.closed_rounds.proofs.closed.walk_row.Lts as lts
-use Rattle.table_rows.proofs.rows.stepped_row.Reads as stepped-row-reads
-use Rattle.table_rows.proofs.rows.row_at.Reads as row-at-reads
+use Rattle.table_lanes.proofs.stepped_row.Reads as stepped-row-reads
+use Rattle.table_lanes.proofs.row_at.Reads as row-at-reads
 use Rattle.table_rows.proofs.rows.wide.Reads as wide-reads
 
 abbrev Inv-loop : tie.InvT-loop

@@ -1,17 +1,19 @@
-use Prim.Native.Nat.{ℕ, _+_, _-_, _*_, _≤_}
-use mathlib.Core.Path.{_≡_, ap, sym, _∙_}
+use Prim.Native.Nat.{ℕ, _+_, _-_, _*_, _≤_, _<_, _^_}
+use mathlib.Core.Path.{_≡_, ap, sym, _∙_, subst}
 use mathlib.Core.List.{List, _++_}
-use lib.ListN.{length, getD, take, drop, length-drop}
+use lib.ListN.{length, getD, take, drop}
 use borrow.Rule.Slice.PartMut.{midOf, putMid}
 use Rattle.wire.specs.Numbers.{encode}
 use Rattle.wire.specs.Sizes.{pathRoom, fullPaths}
 use Rattle.wire.specs.Lent.{front}
-use Rattle.wire.proofs.Rest.{rest-part}
 use Rattle.graph.specs.Encode.{encodeNumbers, encodePaths}
 use Rattle.graph.specs.Entries.{numbersIn, pathsIn}
-use Rattle.graph_bytes.proofs.Along.{Along, along-none, along-as, along-fits, along-long, along-more, along-done}
+use Rattle.graph_bytes.proofs.Along.{Along, along-none, along-as, along-within, along-lent, along-place, along-long, along-more, along-done}
 use Rattle.graph_content.proofs.Encoded.{left-all, paths-next, paths-end, numbers-between}
 use native.Mathlib.Omega.{arith}
+use native.Mathlib.Nat.{le-refl}
+use mir.Syntax.{w64}
+use mir.Val.{Fits}
 use borrow.Author.Needs.{needs}
 use Rattle.graph_bytes.proofs.puts.put_paths.Statement.{statement}
 use Rattle.graph_bytes.proofs.puts.put_paths.Tie as tie
@@ -47,10 +49,15 @@ next : (c : tie.In-loop Inv-loop μ-loop)
     → Along (whole c) (encode (count c) ++ (encodeNumbers (path c) ++ rest c)) (c .before .before .before .before .before .args .out .now) (c .before .loop .out) (c .before .loop .at)
 next c = along-as _ (paths-next (c .before .before .before .before .before .args .paths .now) (c .before .before .before .before .before .args .counts .now) (c .before .before .before .before .before .args .k) (c .before .loop .i) (omega arith)) (c .before .loop .inv .0)
 
--- there is room for it
-room : (c : tie.In-loop Inv-loop μ-loop)
-    → (c .before .loop .at + length (encode (count c)) ≤ length (c .before .loop .out)) × (length (c .before .loop .out) ≡ length (c .before .before .before .before .before .args .out .now))
-room c = (along-fits _ (encode (count c)) (encodeNumbers (path c) ++ rest c) _ _ _ (next c), along-long (next c))
+-- there is room for it, and the place after it is a number
+fits : (c : tie.In-loop Inv-loop μ-loop) → length (c .before .before .before .before .before .args .out .now) < 2 ^ 64
+fits c = omega arith
+
+lent : (c : tie.In-loop Inv-loop μ-loop) → length (encode (count c)) ≤ length (midOf (c .before .loop .at) (length (c .before .loop .out) - c .before .loop .at) (c .before .loop .out))
+lent c = along-lent _ (encode (count c)) (encodeNumbers (path c) ++ rest c) _ _ _ (next c)
+
+place : (c : tie.In-loop Inv-loop μ-loop) (n : ℕ) → n ≡ length (encode (count c)) → Fits w64 (c .before .loop .at + n)
+place c n e = along-place _ (encode (count c)) (encodeNumbers (path c) ++ rest c) _ _ _ n (next c) e (fits c)
 
 -- the output after the count
 abbrev mid : tie.After-wide Inv-loop μ-loop → List ℕ
@@ -71,14 +78,21 @@ part c =
     let r = c .before .before .before .before .before .before .before .before .before .before .before .before .pre .0 .3 (c .before .before .before .before .before .before .before .before .loop .i) (omega arith) in
     numbers-between (pathRoom * c .before .before .before .before .before .before .before .before .loop .i) (pathRoom * c .before .before .before .before .before .before .before .before .loop .i + c .wide .result) (count (c .before .before .before .before .before .before .before)) (c .before .before .before .before .before .before .before .before .before .before .before .before .args .paths .now) (omega arith) (omega arith)
 
--- there is room for it
-room2 : (c : tie.After-wide Inv-loop μ-loop)
-    → (c .before .before .before .before .before .before .before .before .loop .at + c .before .before .before .before .put-number .result + length (encodeNumbers (path (c .before .before .before .before .before .before .before))) ≤ length (mid c))
-    × (length (mid c) ≡ length (c .before .before .before .before .before .before .before .before .before .before .before .before .args .out .now))
-    × (pathRoom * c .before .before .before .before .before .before .before .before .loop .i + c .wide .result ≤ fullPaths)
-room2 c =
+-- there is room for it, and the place after it is a number
+abbrev at2 : tie.After-wide Inv-loop μ-loop → ℕ
+at2 c = c .before .before .before .before .before .before .before .before .loop .at + c .before .before .before .before .put-number .result
+
+lent2 : (c : tie.After-wide Inv-loop μ-loop) → length (encodeNumbers (path (c .before .before .before .before .before .before .before))) ≤ length (midOf (at2 c) (length (mid c) - at2 c) (mid c))
+lent2 c = along-lent _ (encodeNumbers (path (c .before .before .before .before .before .before .before))) (rest (c .before .before .before .before .before .before .before)) _ _ _ (after c)
+
+place2 : (c : tie.After-wide Inv-loop μ-loop) (n : ℕ) → n ≡ length (encodeNumbers (path (c .before .before .before .before .before .before .before))) → Fits w64 (at2 c + n)
+place2 c n e = along-place _ (encodeNumbers (path (c .before .before .before .before .before .before .before))) (rest (c .before .before .before .before .before .before .before)) _ _ _ n (after c) e (fits (c .before .before .before .before .before .before .before))
+
+-- the path is in its room
+ends : (c : tie.After-wide Inv-loop μ-loop) → pathRoom * c .before .before .before .before .before .before .before .before .loop .i + c .wide .result ≤ fullPaths
+ends c =
     let r = c .before .before .before .before .before .before .before .before .before .before .before .before .pre .0 .3 (c .before .before .before .before .before .before .before .before .loop .i) (omega arith) in
-    (along-fits _ (encodeNumbers (path (c .before .before .before .before .before .before .before))) (rest (c .before .before .before .before .before .before .before)) _ _ _ (after c), along-long (after c), omega arith)
+    omega arith
 
 -- end helpers
 
@@ -92,15 +106,15 @@ loop-holds c =
 
 -- src/puts.rt:61:26
 sub-put-number : tie.Need-sub-put-number Inv-loop μ-loop
-sub-put-number c = omega (arith, room c)
+sub-put-number c = along-within (next c)
 
 -- src/puts.rt:61:26
 part-put-number-start : tie.Need-part-put-number-start Inv-loop μ-loop
-part-put-number-start c = omega (arith, room c)
+part-put-number-start c = along-within (next c)
 
 -- src/puts.rt:61:26
 part-put-number-end : tie.Need-part-put-number-end Inv-loop μ-loop
-part-put-number-end c = omega arith
+part-put-number-end c = le-refl _
 
 -- src/puts.rt:61:42
 mul-put-number : tie.Need-mul-put-number Inv-loop μ-loop
@@ -112,11 +126,11 @@ shared-slice-read-put-number c = omega arith
 
 -- src/puts.rt:61:15
 put-number-requires : tie.Need-put-number-requires Inv-loop μ-loop
-put-number-requires c κs = rw (rest-part, length-drop) (omega (arith, room (c .before .before)))
+put-number-requires c κs = lent (c .before .before)
 
 -- src/puts.rt:61:9
 add-at : tie.Need-add-at Inv-loop μ-loop
-add-at c = omega (arith, room (c .before .before .before .before .before))
+add-at c = place (c .before .before .before .before .before) (c .before .before .put-number .result) (c .before .before .put-number .ensures .0)
 
 -- src/puts.rt:62:21
 mul-start : tie.Need-mul-start Inv-loop μ-loop
@@ -140,15 +154,15 @@ add-end c = omega (arith, c .before .before .before .before .before .before .bef
 
 -- src/puts.rt:64:27
 sub-put-numbers : tie.Need-sub-put-numbers Inv-loop μ-loop
-sub-put-numbers c = omega (arith, room2 c)
+sub-put-numbers c = along-within (after c)
 
 -- src/puts.rt:64:27
 part-put-numbers-start : tie.Need-part-put-numbers-start Inv-loop μ-loop
-part-put-numbers-start c = omega (arith, room2 c)
+part-put-numbers-start c = along-within (after c)
 
 -- src/puts.rt:64:27
 part-put-numbers-end : tie.Need-part-put-numbers-end Inv-loop μ-loop
-part-put-numbers-end c = search needs
+part-put-numbers-end c = le-refl _
 
 -- src/puts.rt:64:43
 mul-put-numbers : tie.Need-mul-put-numbers Inv-loop μ-loop
@@ -164,22 +178,19 @@ part-put-numbers-start-2 c = omega arith
 
 -- src/puts.rt:64:43
 part-put-numbers-end-2 : tie.Need-part-put-numbers-end-2 Inv-loop μ-loop
-part-put-numbers-end-2 c = omega (arith, room2 (c .before))
+part-put-numbers-end-2 c = omega (arith, ends (c .before))
 
 -- src/puts.rt:64:15
 put-numbers-requires : tie.Need-put-numbers-requires Inv-loop μ-loop
 put-numbers-requires c κs =
     let k = c .before .before in
-    let x = ap (λ (t : List ℕ). length (encodeNumbers t)) (part k) in
-    let y = ap length (rest-part (k .before .before .before .before .before .before .before .before .loop .at + k .before .before .before .before .put-number .result) (mid k)) ∙ length-drop (k .before .before .before .before .before .before .before .before .loop .at + k .before .before .before .before .put-number .result) (mid k) in
-    omega (arith, room2 k)
+    subst (λ (t : List ℕ). length (encodeNumbers t) ≤ length (midOf (at2 k) (length (mid k) - at2 k) (mid k))) (sym (part k)) (lent2 k)
 
 -- src/puts.rt:64:9
 add-at-2 : tie.Need-add-at-2 Inv-loop μ-loop
 add-at-2 c =
-    let k = c .before .before .before .before .before in
-    let x = ap (λ (t : List ℕ). length (encodeNumbers t)) (part k) in
-    omega (arith, room2 k)
+    let q = c .before .before .put-numbers in
+    place2 (c .before .before .before .before .before) (q .result) (q .ensures .0 ∙ ap (λ (t : List ℕ). length (encodeNumbers t)) (part (c .before .before .before .before .before)))
 
 -- src/puts.rt:65:9
 add-i : tie.Need-add-i Inv-loop μ-loop

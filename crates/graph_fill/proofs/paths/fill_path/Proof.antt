@@ -11,7 +11,7 @@ use Rattle.graph_fill.proofs.paths.fill_path.Tie as tie
 use Rattle.graph_fill.proofs.paths.fill_path.Reads as reads
 use Rattle.graph_fill.proofs.paths.fill_path.Lts as lts
 use Rattle.graph_fill.proofs.numbers.take_numbers.Reads as take-numbers-reads
-use Rattle.wire.proofs.lent.zero_rest_u32.Reads as zero-rest-u32-reads
+use Rattle.wire_lent.proofs.zero_rest_u32.Reads as zero-rest-u32-reads
 
 take-numbers-requires : tie.Need-take-numbers-requires
 take-numbers-requires c κs = omega arith

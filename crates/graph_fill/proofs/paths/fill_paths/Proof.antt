@@ -17,7 +17,7 @@ use Rattle.graph_fill.proofs.paths.fill_paths.Reads as reads
 use Rattle.graph_fill.proofs.paths.fill_paths.Lts as lts
 use Rattle.graph_fill.proofs.numbers.take_number.Reads as take-number-reads
 use Rattle.graph_fill.proofs.paths.fill_path.Reads as fill-path-reads
-use Rattle.wire.proofs.lent.zero_rest_u32.Reads as zero-rest-u32-reads
+use Rattle.wire_lent.proofs.zero_rest_u32.Reads as zero-rest-u32-reads
 
 abbrev Inv-loop : tie.InvT-loop
 Inv-loop file start k paths₀ counts₀ at₀ i₀ paths counts at i = PathsFilled file start k paths₀ counts₀ paths counts at i

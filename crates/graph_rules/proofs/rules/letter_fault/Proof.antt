@@ -4,7 +4,7 @@ use Rattle.graph_rules.proofs.rules.letter_fault.Statement.{statement}
 use Rattle.graph_rules.proofs.rules.letter_fault.Tie as tie
 use Rattle.graph_rules.proofs.rules.letter_fault.Reads as reads
 use Rattle.graph_rules.proofs.rules.letter_fault.Lts as lts
-use Rattle.wire.proofs.letters.is_letter.Reads as is-letter-reads
+use Rattle.wire_letters.proofs.is_letter.Reads as is-letter-reads
 
 is-letter-requires : tie.Need-is-letter-requires
 is-letter-requires c κs = search needs

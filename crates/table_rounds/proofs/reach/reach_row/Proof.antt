@@ -16,8 +16,8 @@ use Rattle.table_rounds.proofs.reach.reach_row.Statement.{statement}
 use Rattle.table_rounds.proofs.reach.reach_row.Tie as tie
 use Rattle.table_rounds.proofs.reach.reach_row.Reads as reads
 use Rattle.table_rounds.proofs.reach.reach_row.Lts as lts
-use Rattle.table_rows.proofs.rows.raised_row.Reads as raised-row-reads
-use Rattle.table_rows.proofs.rows.row_at.Reads as row-at-reads
+use Rattle.table_lanes.proofs.raised_row.Reads as raised-row-reads
+use Rattle.table_lanes.proofs.row_at.Reads as row-at-reads
 use Rattle.table_rows.proofs.rows.wide.Reads as wide-reads
 
 abbrev Inv-loop : tie.InvT-loop

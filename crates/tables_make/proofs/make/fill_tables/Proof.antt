@@ -5,7 +5,7 @@ use Rattle.cover.specs.TableRounds.{tableOf}
 use Rattle.cover.specs.TableEntries.{IsTables}
 use Rattle.table_rounds.specs.Held.{raiseRound, near, nearRound, Settling}
 use Rattle.tables_make.specs.Made.{made}
-use Rattle.table_rounds.proofs.Starts.{homesIn}
+use Rattle.table_starts.proofs.Starts.{homesIn}
 use Rattle.tables_make.proofs.Meaning.{ownStart, holds-paths, holds-ends, holds-few, holds-settling, holds-closable, holds-tables}
 use denote.Ref.{now}
 use lib.ListN.{length, getD, set, take, drop}
@@ -18,11 +18,11 @@ use Rattle.tables_make.proofs.make.fill_tables.Tie as tie
 use Rattle.tables_make.proofs.make.fill_tables.Reads as reads
 use Rattle.tables_make.proofs.make.fill_tables.Lts as lts
 use Rattle.closed_rounds.proofs.closed.closed_walks.Reads as closed-walks-reads
-use Rattle.table_rounds.proofs.distance.finish_distance.Reads as finish-distance-reads
-use Rattle.table_rounds.proofs.distance.settle_distance.Reads as settle-distance-reads
-use Rattle.table_rounds.proofs.distance.start_distance.Reads as start-distance-reads
+use Rattle.table_starts.proofs.distance.finish_distance.Reads as finish-distance-reads
+use Rattle.distance_rounds.proofs.settle_distance.Reads as settle-distance-reads
+use Rattle.table_starts.proofs.distance.start_distance.Reads as start-distance-reads
 use Rattle.table_rounds.proofs.reach.settle_reach.Reads as settle-reach-reads
-use Rattle.table_rounds.proofs.reach.start_reach.Reads as start-reach-reads
+use Rattle.table_starts.proofs.reach.start_reach.Reads as start-reach-reads
 
 -- the rounds of the reach table
 raised : (c : tie.After-settle-reach) → let a = c .before .before .before .before .before .before .before .before .before .before .before .before .before .before .before .before .args in

@@ -10,7 +10,7 @@ use Rattle.tables_make.proofs.make.list_and_fill.Tie as tie
 use Rattle.tables_make.proofs.make.list_and_fill.Reads as reads
 use Rattle.tables_make.proofs.make.list_and_fill.Lts as lts
 use Rattle.tables_make.proofs.make.fill_tables.Reads as fill-tables-reads
-use Rattle.table_rows.proofs.targets.list_by_target.Reads as list-by-target-reads
+use Rattle.tables_make.proofs.targets.list_by_target.Reads as list-by-target-reads
 
 list-by-target-requires : tie.Need-list-by-target-requires
 list-by-target-requires c κs =

@@ -1,0 +1,2 @@
+-- The definitions of an anchor's row.
+pub mod Row

@@ -1,0 +1,2 @@
+-- The laws of the encoding's bytes.
+pub mod Sizing

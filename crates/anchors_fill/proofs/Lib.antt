@@ -1,0 +1,2 @@
+-- The law of the numbers that the fill takes.
+pub mod Taking

@@ -1,0 +1,2 @@
+-- The laws of the head of an anchor file.
+pub mod HeadLaws

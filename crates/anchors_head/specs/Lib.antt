@@ -1,0 +1,2 @@
+-- What the head of an anchor file answers.
+pub mod Head

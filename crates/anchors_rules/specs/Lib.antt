@@ -1,0 +1,2 @@
+-- One anchor as the code holds it.
+pub mod OneAnchor

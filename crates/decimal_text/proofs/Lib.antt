@@ -1,0 +1,3 @@
+-- The laws of digits, and of what is laid one after the other.
+pub mod Digits
+pub mod Ending

@@ -1,0 +1,2 @@
+-- The laws that the proofs of laying labels cite.
+pub mod LabelRuns

@@ -1,0 +1,2 @@
+-- The law of how many bytes a line takes.
+pub mod Rooms

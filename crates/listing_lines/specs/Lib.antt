@@ -1,0 +1,2 @@
+-- The definitions of the lines.
+pub mod Lines

@@ -1,0 +1,2 @@
+-- The laws of a result's listing.
+pub mod Same

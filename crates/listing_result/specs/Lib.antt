@@ -1,0 +1,2 @@
+-- The definitions of a result's listing.
+pub mod Showing

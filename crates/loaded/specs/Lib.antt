@@ -1,0 +1,2 @@
+-- The definitions of a loaded file.
+pub mod Files

@@ -1,2 +1,0 @@
--- The definitions of the plain pass.
-pub mod Looking

@@ -1,0 +1,2 @@
+-- The laws of looking back.
+pub mod LookLaws

@@ -1,0 +1,2 @@
+-- The definitions of looking back.
+pub mod Looking

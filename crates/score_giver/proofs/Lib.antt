@@ -1,0 +1,2 @@
+-- The laws of the anchor that gives a score.
+pub mod GiverLaws

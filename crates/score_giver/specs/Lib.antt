@@ -1,0 +1,2 @@
+-- The definitions of the anchor that gives a score.
+pub mod Giver

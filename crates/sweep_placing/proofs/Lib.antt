@@ -1,2 +1,0 @@
--- The law that the sweep's entry cites besides the shared ones.
-pub mod Swept

@@ -1,0 +1,2 @@
+-- The definitions of a round of the sweep.
+pub mod Round

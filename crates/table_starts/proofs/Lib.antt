@@ -1,0 +1,2 @@
+-- The laws that the proofs of the starts' code cite.
+pub mod Starts

@@ -1,0 +1,2 @@
+-- The definitions that the contracts of the starts' code cite.
+pub mod Starting

@@ -1,0 +1,2 @@
+-- The laws of a graph that is ready for an engine.
+pub mod GraphLies

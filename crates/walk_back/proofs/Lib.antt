@@ -1,0 +1,2 @@
+-- The laws that the proof of the way back cites.
+pub mod WalkBack
