@@ -1,4 +1,6 @@
 // What an anchor's line shows after its number, out of the anchors' numbers and scores.
+#![tactic(auto)]
+
 ghost use Rattle.std.specs.Prelude.{◌≡◌, ◌+◌, ◌-◌};
 ghost use Rattle.anchor_row.specs.Row.{HeldAt, row_in};
 

@@ -2,6 +2,8 @@
 // where the read starts, or the refusal's number, file and place; the view's file, place, length and letters. What must be written comes from an
 // independent program made from document 01 alone. A text holds the cases of one kind: their heading, then the files, each ended by `|`, the graph
 // file first. What each case is stands above the text, in the same order.
+#![tactic(auto)]
+
 use anchors_check::{CheckedBoth, check_anchors};
 use anchors_view::view::{anchor_letters, view};
 use texts::{part, parts, say_filled};

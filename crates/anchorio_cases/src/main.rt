@@ -3,6 +3,8 @@
 // hold 0, and how many are as they were. A line of the writer has the answer's number, file, place and bytes; the bytes written, in hexadecimal
 // digits; and how many bytes of the output are as they were. A text holds the files and the names of the cases, each ended by `|`: a case of the reader
 // gives the numbers of its parts, from 0, and one of the writer is a name with its changes.
+#![tactic(auto)]
+
 ghost use Rattle.std.specs.Prelude.{◌≤◌};
 
 use anchors_read::{AnchorsAnswer, read_anchors};

@@ -1,4 +1,6 @@
 // The bytes of an anchor file's content without fault: how many they are, and written.
+#![tactic(auto)]
+
 ghost use Rattle.std.specs.Prelude.{◌≡◌, ◌≤◌, length};
 ghost use Rattle.wire.specs.Lent.{front};
 ghost use Rattle.wire.specs.Sizes.{most_read, most_anchors, full_letters, full_anchors};

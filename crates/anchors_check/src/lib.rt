@@ -1,4 +1,5 @@
 // The check of the anchor file: the definitions are in the crate anchors, and the check here decides without writing.
+#![tactic(auto)]
 
 ghost use Rattle.std.specs.Prelude.{◌≡◌};
 ghost use Rattle.anchors.specs.AnchorReading.{anchors_of};

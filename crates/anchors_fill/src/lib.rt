@@ -1,4 +1,6 @@
 // Laying the content of an accepted anchor file into lent buffers: the letters of the read, and the numbers of the anchors.
+#![tactic(auto)]
+
 ghost use Rattle.std.specs.Prelude.{◌≡◌, ◌+◌, ◌*◌, ◌≤◌, length, take, drop};
 ghost use Rattle.wire.specs.Lent.{laid};
 ghost use Rattle.wire.specs.Sizes.{most_read, most_anchors, full_letters, full_anchors};

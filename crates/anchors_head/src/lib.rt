@@ -1,4 +1,6 @@
 // The head of an anchor file: its kind, and the read's length.
+#![tactic(auto)]
+
 ghost use Rattle.std.specs.Prelude.{◌≡◌};
 ghost use Rattle.anchors_head.specs.Head.{head_of};
 

@@ -1,4 +1,6 @@
 // The letters of one anchor: those of the label in the graph file against those of the read in the anchor file.
+#![tactic(auto)]
+
 ghost use Rattle.std.specs.Prelude.{◌≡◌, ◌+◌, ◌-◌, ◌≤◌, length};
 ghost use Rattle.anchors.specs.AnchorRules.{agree_from};
 

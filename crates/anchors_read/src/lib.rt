@@ -1,4 +1,6 @@
 // The reader of an anchor file: it checks both files, and lays an accepted anchor file's content into lent buffers.
+#![tactic(auto)]
+
 ghost use Rattle.std.specs.Prelude.{◌≡◌};
 ghost use Rattle.wire.specs.Found.{refused};
 ghost use Rattle.anchors_read.specs.Answer.{answer_of, counts_answer, Answered};

@@ -1,4 +1,5 @@
 // The writer of an anchor file: it takes content and the graph file's bytes, checks both as the reader would, and writes the content's bytes.
+#![tactic(auto)]
 
 ghost use Rattle.std.specs.Prelude.{◌≡◌};
 ghost use Rattle.anchors_write.specs.Answer.{refused_with, Written};

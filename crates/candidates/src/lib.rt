@@ -1,4 +1,6 @@
 // What a step brings to a score: its candidate, the greater of a score and a candidate, and whether the candidate is the score.
+#![tactic(auto)]
+
 ghost use Rattle.std.specs.Prelude.{◌≡◌, ◌+◌, ◌-◌, ◌^◌, ◌<◌, max, ◌≢◌, pos};
 ghost use Rattle.std.proofs.Math.IntN.{sub_ℕ};
 ghost use Rattle.rounds.specs.Loop.{Told};

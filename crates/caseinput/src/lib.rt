@@ -1,3 +1,5 @@
 // What the programs over stored cases share: the parts of a record, read from standard input, and digests.
+#![tactic(auto)]
+
 pub mod digest; // digest.rt: 64-bit FNV-1a digests of bytes and of numbers
 pub mod input; // input.rt: the parts of a record

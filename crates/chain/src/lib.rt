@@ -1,1 +1,2 @@
 // Chains of anchors over a graph: the definitions are in specs/.
+#![tactic(auto)]

@@ -1,4 +1,6 @@
 // What a chain's listing is made of: the anchor that the chain ends at, and the copy of the way back to the front of the lent buffer.
+#![tactic(auto)]
+
 ghost use Rattle.std.specs.Prelude.{◌≡◌, ◌+◌, ◌≤◌, length, drop};
 ghost use Rattle.wire.specs.Lent.{front};
 ghost use Rattle.chain.specs.Named.{Top};

@@ -3,6 +3,8 @@
 // by hand from document 01's words, and so is what must be written. A lent buffer's places hold something else before each call: after `zero`
 // stands how many of them hold 0, after `before` how many are as they were. One text holds the files and the names of the cases, each ended by `|`: a
 // case gives the numbers of its parts, from 0. Parts 0 and 1 are the words for the sweep and for the plain pass.
+#![tactic(auto)]
+
 use anchors_read::read_anchors;
 use placing::ChainAnswer;
 use plain_placing::plain;

@@ -1,5 +1,6 @@
 // Changes of a case's content, as a text writes them: a letter that names a list, a place in it, counted from 0, `=`, the number that stands there
 // and `;`, as in `E7=5;`. A place that is left out is 0: `n=5;` changes a list of one number.
+#![tactic(auto)]
 
 // A change: its list, place and number.
 #[derive(Drop)]

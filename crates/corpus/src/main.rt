@@ -16,6 +16,8 @@
 //
 // TABLES is the digest of reach, distance and closed walks, CHAIN that of the scores and the chain, each in buffers of full size. Where two
 // entries do not say the same of a case, the line says so.
+#![tactic(auto)]
+
 mod compare; // compare.rt: whether two answers, or two lists of numbers, are the same
 
 ghost use Rattle.std.specs.Prelude.{◌≡◌, true};

@@ -1,1 +1,2 @@
 // Walks, tables and distances over a graph: the definitions are in specs/.
+#![tactic(auto)]

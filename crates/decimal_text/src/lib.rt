@@ -1,4 +1,6 @@
 // Numbers in base ten, and words with numbers after them, each laid into the lent-on rest of an output. The caller has seen that there is room.
+#![tactic(auto)]
+
 ghost use Rattle.std.specs.Prelude.{◌≡◌, ◌≤◌, length};
 ghost use Rattle.wire.specs.Lent.{front};
 ghost use Rattle.decimal_text.specs.Decimal.{decimal};

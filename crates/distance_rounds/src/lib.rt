@@ -1,4 +1,6 @@
 // The distance table: its rounds until one is quiet. In the rounds an entry is 0 where it is unknown, and d + 1 where it is d.
+#![tactic(auto)]
+
 ghost use Rattle.std.specs.Prelude.{◌≡◌, ◌≢◌, ℕ, ◌+◌, ◌*◌, ◌≤◌, ◌<◌, length};
 ghost use Rattle.wire.specs.Sizes.{table_row};
 ghost use Rattle.rounds.specs.Rounds.{Within, Rounds, sweep};

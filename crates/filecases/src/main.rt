@@ -1,5 +1,7 @@
 // Cases of the listing program's files: there, missing, or a folder in place of a file. After a case's name stands what is printed. The folder
 // that this is run in has G1 with its anchors, an empty file and a folder.
+#![tactic(auto)]
+
 use listing_files::print_listing;
 use telling::say;
 

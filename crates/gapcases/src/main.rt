@@ -1,5 +1,7 @@
 // Document 01's case of G1's read with its first and third anchors only: "the gaps are 2 and 1, the candidate 1", and "With weights 1 the candidate is
 // −1." The gaps and the candidate are those of the step that both engines take; the score, the chain and the rounds are in the program chainvectors.
+#![tactic(auto)]
+
 ghost use Rattle.std.specs.Prelude.{◌<◌};
 
 use candidates::candidate;

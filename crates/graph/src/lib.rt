@@ -1,1 +1,2 @@
 // The graph file: its definitions are in specs/, their theorems in proofs/.
+#![tactic(auto)]

@@ -1,4 +1,6 @@
 // The check of the graph file: the definitions are in the crate graph, and the check here decides without writing.
+#![tactic(auto)]
+
 ghost use Rattle.std.specs.Prelude.{◌≡◌};
 ghost use Rattle.graph.specs.Reading.{graph_of};
 ghost use Rattle.graph_check.specs.Checked.{checked_of, fault_of, HasHead};

@@ -1,4 +1,6 @@
 // The first fault of the content that a writer of a graph file is given, in the reader's order.
+#![tactic(auto)]
+
 mod sections; // sections.rt: the first fault of the labels and of the paths
 
 ghost use Rattle.std.specs.Prelude.{◌≡◌, length};

@@ -1,4 +1,6 @@
 // The bytes of a whole graph file: how many the content in lent buffers takes, and these written.
+#![tactic(auto)]
+
 mod room; // room.rt: how many bytes the labels and the paths take
 mod puts; // puts.rt: the labels written
 

@@ -1,4 +1,5 @@
 // The reader of a graph file: it checks the file, and lays an accepted file's content into lent buffers.
+#![tactic(auto)]
 
 ghost use Rattle.std.specs.Prelude.{◌≡◌};
 ghost use Rattle.wire.specs.Found.{refused};

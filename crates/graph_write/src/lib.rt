@@ -1,4 +1,6 @@
 // The writer of a graph file: it takes content, checks it as the reader would (crate graph_faults), and writes its bytes (crate graph_file_bytes).
+#![tactic(auto)]
+
 ghost use Rattle.std.specs.Prelude.{◌≡◌, length};
 ghost use Rattle.graph_content.specs.Used.{given_of};
 ghost use Rattle.graph_write.specs.Answer.{refused_with, Written};

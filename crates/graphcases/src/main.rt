@@ -1,6 +1,8 @@
 // Runs the check of a graph file on document 01's cases and on bad input, and writes one line for each: the sections, or the refusal's
 // number and place. What must be written was worked out by hand from document 01. A text holds the cases of one kind: their heading, and then
 // the files, each ended by `|`. What each file is stands above the text, in the same order.
+#![tactic(auto)]
+
 use graph_check::{Checked, check_graph};
 use texts::{part, parts, say_filled};
 

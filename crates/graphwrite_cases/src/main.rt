@@ -5,6 +5,8 @@
 // One text has the changes that make G1 and the large graph of buffers of zeros, and then each case's name and changes (crate changes). The lists
 // are n, m, K; F, how many lengths are lent; R, the output's room; B, how many labels of the large graph are the longer ones; the letters s, the
 // lengths L, the edges E, the paths P and the counts C.
+#![tactic(auto)]
+
 ghost use Rattle.std.specs.Prelude.{◌≤◌, ◌<◌};
 
 use changes::{change_letters, change_numbers, changed};

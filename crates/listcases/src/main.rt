@@ -1,5 +1,7 @@
 // Cases of the listing, over the files of document 01's chapters "Listing" and "Checked by hand". After a case's name stands what is printed, byte
 // for byte. The files' bytes are made by hand from document 01's words, and so is what must be written.
+#![tactic(auto)]
+
 use listing::{listing_room, output, printed};
 use loaded::Loaded;
 

@@ -1,4 +1,6 @@
 // What the listing program prints, laid into a lent output: the listing of two files' bytes, a refusal, or that a file is not there.
+#![tactic(auto)]
+
 ghost use Rattle.std.specs.Prelude.{◌≡◌, ◌≤◌, length, take};
 ghost use Rattle.wire.specs.Sizes.{full_letters, full_anchors, full_chain};
 ghost use Rattle.listing_text.specs.Lines.{listing_room};

@@ -1,4 +1,6 @@
 // Prints the listing of two files, named by the caller. What is printed is laid by `listing`, whose promise goes by what loading each file gave.
+#![tactic(auto)]
+
 mod files; // files.rt: loading a file
 
 use files::{load, room};

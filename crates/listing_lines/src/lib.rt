@@ -1,5 +1,7 @@
 // The listing's lines of words and numbers, each laid into a lent output: the first line, a refusal, a file that is not there. The caller has
 // seen that there is room.
+#![tactic(auto)]
+
 ghost use Rattle.std.specs.Prelude.{◌≡◌, ◌≤◌, length};
 ghost use Rattle.wire.specs.Lent.{front};
 ghost use Rattle.listing_lines.specs.Lines.{found_line, refused_line, no_file_line, Printed, line_room};

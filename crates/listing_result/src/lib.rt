@@ -1,4 +1,6 @@
 // The listing of an engine's result, out of the numbers and buffers that the result is in. No engine stands below this crate.
+#![tactic(auto)]
+
 ghost use Rattle.std.specs.Prelude.{List, ◌≤◌, length};
 ghost use Rattle.anchors.specs.Anchors.{Anchor};
 ghost use Rattle.chain.specs.ChainEntries.{Result};

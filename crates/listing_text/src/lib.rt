@@ -1,4 +1,6 @@
 // The listing out of buffers, laid into a lent output: the first line, and the lines of the chain's anchors. The caller has seen that there is room.
+#![tactic(auto)]
+
 ghost use Rattle.std.specs.Prelude.{◌≡◌, ◌∷◌, ◌++◌, ◌≤◌, length};
 ghost use Rattle.wire.specs.Lent.{front};
 ghost use Rattle.wire.specs.Sizes.{full_chain};

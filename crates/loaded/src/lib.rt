@@ -1,4 +1,6 @@
 // What loading a file gave: how many bytes of a room are the file's, or that there is none; and which of two files is missing.
+#![tactic(auto)]
+
 ghost use Rattle.std.specs.Prelude.{◌≡◌, List, ℕ, take};
 ghost use Rattle.loaded.specs.Files.{missing_of, file_in, bytes_in};
 

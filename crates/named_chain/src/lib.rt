@@ -1,4 +1,6 @@
 // The chain that is returned: from the lowest-numbered anchor of greatest score back along the anchors that give the scores.
+#![tactic(auto)]
+
 ghost use Rattle.std.specs.Prelude.{◌≡◌, ◌≤◌, length, drop};
 ghost use Rattle.wire.specs.Sizes.{full_chain};
 ghost use Rattle.rounds.specs.Rounds.{Within};

@@ -7,6 +7,8 @@
 //
 // HEX is bytes in hexadecimal digits, in upper case, or `-` for no bytes; V, P, F and PLACE are decimal numbers. For a line that is no
 // case the program writes `not a case`.
+#![tactic(auto)]
+
 ghost use Rattle.std.specs.Prelude.{◌≡◌, true, ℕ, ◌≤◌, ◌<◌, length, take, drop, get_or};
 ghost use Rattle.numbercases.specs.Digits.{digit_byte};
 ghost use Rattle.numbercases.specs.Cases.{DecimalOf, BytesOf};

@@ -1,4 +1,5 @@
 // What the chaining entries share: how a call on both files begins, whichever engine follows, and the answers. No engine stands below this crate.
+#![tactic(auto)]
 
 ghost use Rattle.std.specs.Prelude.{◌≡◌, ◌≤◌, length};
 ghost use Rattle.wire.specs.Sizes.{full_letters, full_anchors};

@@ -1,4 +1,6 @@
 // The plain pass's scores, and the chain by them. The sweep does not stand below this crate.
+#![tactic(auto)]
+
 ghost use Rattle.std.specs.Prelude.{◌≡◌, ◌≤◌, length};
 ghost use Rattle.wire.specs.Sizes.{most_read, most_anchors, full_scores, full_chain};
 ghost use Rattle.graph.specs.Content.{Graph};

@@ -1,4 +1,6 @@
 // How an anchor of the plain pass gets its score: it looks back over the anchors that were taken before it in read order.
+#![tactic(auto)]
+
 ghost use Rattle.std.specs.Prelude.{◌≤◌, length};
 ghost use Rattle.wire.specs.Sizes.{most_read, most_weight};
 ghost use Rattle.rounds.specs.Table.{entry};

@@ -1,4 +1,5 @@
 // The plain pass's entry, on the bytes of a graph file and an anchor file. The sweep does not stand below this crate.
+#![tactic(auto)]
 
 ghost use Rattle.std.specs.Prelude.{◌≡◌, ◌≤◌, length};
 ghost use Rattle.wire.specs.Found.{good};

@@ -1,4 +1,6 @@
 // Rounds in place until one is quiet: the definitions are in specs/, the theorem in proofs/. The code here is what every table's loops share.
+#![tactic(auto)]
+
 ghost use Rattle.std.specs.Prelude.{◌≡◌, ◌≤◌};
 ghost use Rattle.rounds.specs.Place.{cell_place};
 

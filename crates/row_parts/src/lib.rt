@@ -1,4 +1,6 @@
 // What a row of a vertex is made of: the nearer of two entries, the way back along one path, and the entry of a closed walk.
+#![tactic(auto)]
+
 ghost use Rattle.std.specs.Prelude.{◌≡◌, ◌+◌, ◌<◌, ◌^◌, length};
 ghost use Rattle.rounds.specs.Rounds.{Within};
 ghost use Rattle.rounds.specs.Kinds.{closer};

@@ -1,4 +1,6 @@
 // The anchor that gives a score: of those with a step to an anchor and exactly its score as their candidate, the lowest-numbered.
+#![tactic(auto)]
+
 ghost use Rattle.std.specs.Prelude.{◌≤◌, length};
 ghost use Rattle.wire.specs.Sizes.{most_read};
 ghost use Rattle.pair_step.specs.Pairs.{RowFits, EndsFit};

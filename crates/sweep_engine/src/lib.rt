@@ -1,4 +1,6 @@
 // The sweep: scores start at the weights, and rounds in place raise them until one is quiet.
+#![tactic(auto)]
+
 ghost use Rattle.std.specs.Prelude.{◌≡◌, ◌*◌, ◌≤◌, length};
 ghost use Rattle.anchors.specs.Anchors.{per_anchor};
 ghost use Rattle.steps.specs.Setting.{Prepared, setting_of};

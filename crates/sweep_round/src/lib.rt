@@ -1,4 +1,6 @@
 // One round of the sweep: "a round takes anchors in rising number, in place, each score becoming the greatest of itself and all candidates".
+#![tactic(auto)]
+
 ghost use Rattle.std.specs.Prelude.{◌≡◌, ◌≢◌, ◌≤◌, length};
 ghost use Rattle.rounds.specs.Loop.{Told};
 ghost use Rattle.wire.specs.Sizes.{most_read, most_weight};

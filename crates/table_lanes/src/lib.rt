@@ -1,4 +1,6 @@
 // A row of sixteen cells taken from a table, and what the row of another vertex brings to it, cell by cell.
+#![tactic(auto)]
+
 ghost use Rattle.std.specs.Prelude.{ℕ, ◌+◌, ◌≤◌, ◌<◌, ◌^◌, max, length, get_or};
 ghost use Rattle.wire.specs.Sizes.{table_row};
 ghost use Rattle.rounds.specs.Kinds.{shift, closer};

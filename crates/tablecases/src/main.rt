@@ -2,6 +2,8 @@
 // refused files, and buffers of other sizes. For each it writes the answer and then `untouched` where every place of the buffers is as it
 // was, else the digest of all places up to the full sizes, and for few vertices a line each: reach / distances / closed walk. A text holds cases: the
 // name and the file of each, both ended by `|`.
+#![tactic(auto)]
+
 ghost use Rattle.std.specs.Prelude.{◌+◌, ◌*◌, ◌<◌, ◌≤◌, length};
 
 use tables::{TablesAnswer, tables};

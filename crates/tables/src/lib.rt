@@ -1,4 +1,5 @@
 // The tables of a graph: reach, distance and closed walks.
+#![tactic(auto)]
 
 ghost use Rattle.std.specs.Prelude.{◌≡◌, ◌*◌, ◌≤◌, length};
 ghost use Rattle.wire.specs.Sizes.{full_table, full_closed};

@@ -1,4 +1,6 @@
 // An accepted graph file is read and its tables are made, for whatever engine follows.
+#![tactic(auto)]
+
 ghost use Rattle.std.specs.Prelude.{◌≡◌, ◌≤◌, length};
 ghost use Rattle.wire.specs.Found.{good};
 ghost use Rattle.wire.specs.Sizes.{full_letters, full_lengths, full_paths, full_table, full_closed};

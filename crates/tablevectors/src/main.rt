@@ -2,6 +2,8 @@
 // letters of an anchor are those of the program `vectors`, chains those of `chainvectors`.) The files' bytes are made by hand from document 01's
 // words, and so is what must be written: the answer, then a row for each vertex. A lent table's places hold something else before each call: after
 // `zero` stands how many of them hold 0, after `before` how many are as they were.
+#![tactic(auto)]
+
 use tables::{TablesAnswer, tables};
 use telling::{NUMBER_BEFORE, count_numbers, say, say_numbers};
 use texts::{part, say_filled};

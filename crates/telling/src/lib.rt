@@ -1,4 +1,6 @@
 // What the programs with the cases of document 01 write with: text, numbers, bytes, and how many places of a buffer hold a number.
+#![tactic(auto)]
+
 ghost use Rattle.std.specs.Prelude.{◌≡◌};
 ghost use Rattle.telling.specs.Counts.{times_in};
 

@@ -1,5 +1,6 @@
 // Texts that the programs' cases are kept in and written by: a text of several parts, each ended by `|`, and a text with places for numbers.
 // (A program's check grows with its texts much faster than with their bytes: one text for many cases keeps it short.)
+#![tactic(auto)]
 
 ghost use Rattle.std.specs.Prelude.{◌≡◌};
 ghost use Rattle.telling.specs.Counts.{times_in};

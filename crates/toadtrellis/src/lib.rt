@@ -1,5 +1,7 @@
 // The delivered library: its entries under the names for C and Rust (include/toadtrellis.h). A slice is a pointer and a length; an answer is a
 // struct by value. Each entry calls the layer's own and has the same promise and the same answer, with no demand on its caller.
+#![tactic(auto)]
+
 ghost use Rattle.graph_content.specs.Used.{given_of};
 ghost use Rattle.std.specs.Prelude.{length};
 ghost use Rattle.chain.specs.ChainEntries.{IsSweep, IsPlain};

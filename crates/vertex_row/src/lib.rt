@@ -1,4 +1,6 @@
 // The row of one vertex v: for every other vertex the cover distance to v plus 1, and for v itself its closed walk plus 1; 0 where there is none.
+#![tactic(auto)]
+
 ghost use Rattle.std.specs.Prelude.{◌≡◌, length};
 ghost use Rattle.rounds.specs.Rounds.{Within};
 ghost use Rattle.steps.specs.Setting.{Prepared, row_in};

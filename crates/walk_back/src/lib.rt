@@ -1,4 +1,6 @@
 // The least walk back to where it started: over a last edge, by a table that has the walks to that edge.
+#![tactic(auto)]
+
 ghost use Rattle.std.specs.Prelude.{◌≡◌, ◌+◌, ◌-◌, ◌*◌, ◌≤◌, ◌<◌, length};
 ghost use Rattle.wire.specs.Sizes.{table_row};
 ghost use Rattle.rounds.specs.Rounds.{Within};

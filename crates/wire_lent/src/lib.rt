@@ -1,4 +1,6 @@
 // The unused places of a lent buffer: 0 from a place up to the full size. One function for each element type.
+#![tactic(auto)]
+
 ghost use Rattle.std.specs.Prelude.{◌≡◌, ◌≤◌, length, take};
 ghost use Rattle.wire.specs.Lent.{laid};
 

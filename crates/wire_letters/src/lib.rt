@@ -1,4 +1,6 @@
 // Letters in code: the class of a byte, when two letters agree, and letters written.
+#![tactic(auto)]
+
 ghost use Rattle.std.specs.Prelude.{◌≡◌, ◌≤◌, length};
 ghost use Rattle.wire.specs.Letters.{letter_of, is_letter, agree};
 ghost use Rattle.wire.specs.Lent.{front};

@@ -9,6 +9,8 @@
 //
 // One line is written for each: `refused NUMBER file FILE place PLACE`, or `written LENGTH DIGEST`, the digest being that of the bytes written. Where a
 // byte past the last one written is not as it was, or the answer's other numbers are not 0, the line says so.
+#![tactic(auto)]
+
 ghost use Rattle.io.specs.Counts.{IsPrefixLen};
 
 use anchors_write::write_anchors;
