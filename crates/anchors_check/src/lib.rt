@@ -18,7 +18,7 @@ use wire::refusals::{ANCHOR_FILE, GRAPH_FILE, LEFT_OVER, OUT_OF_RANGE};
 use wire::sizes::{MOST_ANCHORS, MOST_FILE_BYTES};
 
 // r and N of an accepted file, and the places where the read's letters and the anchors start.
-#[derive(Drop)]
+#[derive(Clone, Copy)]
 pub struct AnchorSections {
     pub r: u32,
     pub read: usize,
@@ -27,14 +27,14 @@ pub struct AnchorSections {
 }
 
 // What the check of an anchor file over an accepted graph finds: its sections, or the number and the place of the first fault.
-#[derive(Drop)]
+#[derive(Clone, Copy)]
 pub enum CheckedAnchors {
     Accepted(AnchorSections),
     Fault(u32, usize),
 }
 
 // What the check of both files finds: the sections of both, or the number, the file and the place of the first fault.
-#[derive(Drop)]
+#[derive(Clone, Copy)]
 pub enum CheckedBoth {
     Accepted(graph_check::Sections, AnchorSections),
     Refused(u32, u32, usize),

@@ -13,7 +13,7 @@ use wire::numbers::{Cursor, Number, read_number};
 use wire::refusals::{LETTERS_DIFFER, NO_VERTEX, OUT_OF_RANGE, OUTSIDE};
 
 // What reading an anchor's numbers finds: the numbers, where the weight starts and the place after it; or the number and the place of the fault.
-#[derive(Drop)]
+#[derive(Clone, Copy)]
 pub enum ReadFive {
     Got(Five, usize, usize),
     Fault(u32, usize),

@@ -12,7 +12,7 @@ use wire::refusals::SMALL_BUFFER;
 
 // Number, file and place; then the counts of an accepted anchor file: letters of the read, and anchors.
 #[repr(C)]
-#[derive(Drop)]
+#[derive(Clone, Copy)]
 pub struct AnchorsAnswer {
     pub number: u32,
     pub file: u32,

@@ -10,7 +10,7 @@ use wire::refusals::OUT_OF_RANGE;
 use wire::sizes::MOST_WEIGHT;
 
 // An anchor's numbers.
-#[derive(Drop)]
+#[derive(Clone, Copy)]
 pub struct Five {
     pub v: u32,
     pub x: u32,

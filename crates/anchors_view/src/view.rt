@@ -10,7 +10,7 @@ use anchors_parts::one::{ReadFive, five_after};
 use wire::refusals::{ANCHOR_FILE, GRAPH_FILE};
 
 // A part of a file: the file, 1 graph or 2 anchors, the place where it starts and how long it is.
-#[derive(Drop)]
+#[derive(Clone, Copy)]
 pub struct Viewed {
     pub file: u32,
     pub start: u32,

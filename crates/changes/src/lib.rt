@@ -3,7 +3,7 @@
 #![tactic(auto)]
 
 // A change: its list, place and number.
-#[derive(Drop)]
+#[derive(Clone, Copy)]
 struct Change {
     list: u8,
     at: u32,

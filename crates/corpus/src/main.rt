@@ -40,14 +40,14 @@ use tables::TablesAnswer;
 use tables_make::make::{cell_zeros, letter_zeros, number_zeros, path_zeros, vertex_zeros};
 
 // What the entry for tables answered, and the digest of the tables.
-#[derive(Drop)]
+#[derive(Clone, Copy)]
 struct Tabled {
     answer: TablesAnswer,
     digest: u64,
 }
 
 // What the sweep answered, the digest of its scores and chain, and whether the plain pass gave the same.
-#[derive(Drop)]
+#[derive(Clone, Copy)]
 struct Placed {
     answer: ChainAnswer,
     digest: u64,

@@ -12,7 +12,7 @@ use wire::refusals::{LEFT_OVER, ON_NO_PATH, OUT_OF_RANGE, WRONG_KIND};
 use wire::sizes::{GRAPH_KIND, MOST_EDGES, MOST_FILE_BYTES, MOST_PATHS, MOST_VERTICES};
 
 // The counts of an accepted file, and the places where its labels, edges and paths start.
-#[derive(Drop)]
+#[derive(Clone, Copy)]
 pub struct Sections {
     pub n: u32,
     pub letters: u32,
@@ -24,14 +24,14 @@ pub struct Sections {
 }
 
 // What the check finds: an accepted file's sections, or the number and the place of the first fault.
-#[derive(Drop)]
+#[derive(Clone, Copy)]
 pub enum Checked {
     Accepted(Sections),
     Fault(u32, usize),
 }
 
 // The counts and places of a file up to its edges, and the place after them.
-#[derive(Drop)]
+#[derive(Clone, Copy)]
 struct Head {
     n: u32,
     letters: u32,

@@ -6,7 +6,7 @@ ghost use Rattle.graph_fill.specs.Filling.{one_number, numbers_in};
 use wire::numbers::{Cursor, Number};
 
 // A number, and the place after it.
-#[derive(Drop)]
+#[derive(Clone, Copy)]
 pub struct Taken {
     pub value: u32,
     pub next: usize,

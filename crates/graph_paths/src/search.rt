@@ -6,7 +6,7 @@ use graph_rules::rules;
 use wire::numbers::{Cursor, Number};
 
 // Where a search along the edges ended: whether it found the edge, and the place and the number of the edges still to come.
-#[derive(Drop)]
+#[derive(Clone, Copy)]
 pub struct Search {
     pub found: bool,
     pub at: usize,

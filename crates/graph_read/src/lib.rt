@@ -13,7 +13,7 @@ use wire::refusals::{GRAPH_FILE, SMALL_BUFFER};
 
 // Number, file and place; then the counts of an accepted file: vertices, letters of all labels, edges, paths.
 #[repr(C)]
-#[derive(Drop)]
+#[derive(Clone, Copy)]
 pub struct GraphAnswer {
     pub number: u32,
     pub file: u32,

@@ -13,7 +13,7 @@ use wire::sizes::MOST_FILE_BYTES;
 
 // The refusal's number, file and place, 0 in all three for an acceptance, and how many bytes were written.
 #[repr(C)]
-#[derive(Drop)]
+#[derive(Clone, Copy)]
 pub struct WrittenAnswer {
     pub number: u32,
     pub file: u32,

@@ -6,7 +6,7 @@ ghost use Rattle.listing_files.specs.Files.{Within, LoadedIn};
 use loaded::Loaded;
 
 // What one read brought.
-#[derive(Drop)]
+#[derive(Clone, Copy)]
 pub enum More {
     Put(usize),
     End,

@@ -16,7 +16,7 @@ use wire::sizes::FULL_CHAIN;
 use wire_lent::zero_rest_u32;
 
 // The length of the chain that is returned, and its score.
-#[derive(Drop)]
+#[derive(Clone, Copy)]
 pub struct Chained {
     pub length: usize,
     pub score: u32,

@@ -16,14 +16,14 @@ ghost use Rattle.numbercases.specs.Cases.{DecimalOf, BytesOf};
 use wire::numbers::{Cursor, Number, group_count, put_number, read_number};
 
 // A decimal number, or other text.
-#[derive(Drop)]
+#[derive(Clone, Copy)]
 enum Decimal {
     Value(u64),
     Other,
 }
 
 // How many bytes hexadecimal text writes, or other text.
-#[derive(Drop)]
+#[derive(Clone, Copy)]
 enum Hex {
     Bytes(usize),
     Other,

@@ -15,7 +15,7 @@ use wire::sizes::{FULL_CHAIN, FULL_SCORES};
 
 // Number, file and place; then the anchors of the file, the greatest score, the rounds and the chain's length.
 #[repr(C)]
-#[derive(Drop)]
+#[derive(Clone, Copy)]
 pub struct ChainAnswer {
     pub number: u32,
     pub file: u32,

@@ -11,7 +11,7 @@ use wire::sizes::FULL_SCORES;
 use wire_lent::zero_rest_u32;
 
 // The greatest score, the rounds, and the length of the chain.
-#[derive(Drop)]
+#[derive(Clone, Copy)]
 pub struct Placement {
     pub score: u32,
     pub rounds: u32,

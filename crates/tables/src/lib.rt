@@ -19,7 +19,7 @@ use wire_lent::zero_rest_u32;
 
 // Number, file and place; then of an accepted file n, K and the rounds of the two tables.
 #[repr(C)]
-#[derive(Drop)]
+#[derive(Clone, Copy)]
 pub struct TablesAnswer {
     pub number: u32,
     pub file: u32,

@@ -16,7 +16,7 @@ use table_starts::reach::start_reach;
 use wire::sizes::ROW;
 
 // The rounds that made a reach table and a distance table.
-#[derive(Drop)]
+#[derive(Clone, Copy)]
 pub struct TableRounds {
     pub reach: u32,
     pub distance: u32,

@@ -19,7 +19,7 @@ use tables::{TablesAnswer, tables};
 
 // Where a part of the file named starts, and how long it is.
 #[repr(C)]
-#[derive(Drop)]
+#[derive(Clone, Copy)]
 pub struct ToadPart {
     pub start: u32,
     pub length: u32,

@@ -1,7 +1,7 @@
 // The class of a byte.
 
 // The letter that a byte is, if it is one.
-#[derive(Drop)]
+#[derive(Clone, Copy)]
 pub enum Letter {
     A,
     C,

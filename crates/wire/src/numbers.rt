@@ -6,13 +6,13 @@ ghost use Rattle.wire.specs.Lent.{front};
 use crate::refusals::{BAD_NUMBER, BYTES_END};
 
 // A place in a file, counted from 0.
-#[derive(Drop)]
+#[derive(Clone, Copy)]
 pub struct Cursor {
     pub at: usize,
 }
 
 // What reading a number finds: its value with the next cursor, or the refusal's number and place.
-#[derive(Drop)]
+#[derive(Clone, Copy)]
 pub enum Number {
     Value(u32, Cursor),
     Fault(u32, usize),

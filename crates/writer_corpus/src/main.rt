@@ -86,7 +86,7 @@ fn out_room() -> [u8; 100000] {
 // ---- the graph writer: each function reads one more of its buffers
 
 // The counts of a case, and the output's room.
-#[derive(Drop)]
+#[derive(Clone, Copy)]
 struct Counted {
     room: u32,
     n: u32,
