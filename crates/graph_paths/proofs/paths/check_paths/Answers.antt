@@ -1,14 +1,14 @@
+use borrow.Author.Tests.{not-true, not-false}
 use Prim.Native.Nat.{ℕ}
-use mathlib.Core.Path.{◌≡◌, refl, sym, ap, ◌∙◌}
+use mathlib.Core.Path.{refl, sym, ap, ◌∙◌}
 use native.Mathlib.Omega.{arith}
-use borrow.Author.Rules.{rules}
 use lib.ListN.{length, length-set}
 use borrow.Author.Tests.{not-true, not-false}
 use Rattle.graph.specs.Reading.{paths_from}
 use Rattle.wire.specs.declared.numbers.Number.TheVariants.{Fault}
 use Rattle.graph_paths.specs.PathAnswers.{edges_in}
 use Rattle.graph_paths.proofs.Stepping.{ahead-start, rise_kept}
-use Rattle.graph_paths.proofs.Walking.{Walked, Walking, walked_none, walked_done, walked_stop, walking_start, walking_end, walking_stop, walking_bad, walking_off, walking_next, answer-fault, answer-good}
+use Rattle.graph_paths.proofs.Walking.{walked_none, walked_done, walked_stop, walking_start, walking_end, walking_stop, walking_bad, walking_off, walking_next, answer-fault, answer-good}
 use Rattle.graph_paths.proofs.paths.check_paths.Goals as goal
 
 pub paths-init : goal.paths-init
@@ -50,7 +50,7 @@ loop-left-preserved c =
           (sym c.rise_fault-number.ensures
           ∙ c.if-number-ne0.false)
           c.find_step-step.ensures
-          c.if-not-step.false
+          (not-false _ c.if-not-step.false)
           c.mark.ensures,
       ap length c.mark.ensures ∙ simp length-set l.invariant.1,
     )
@@ -118,4 +118,4 @@ returns-then-not-step c =
     ∙ c.in-Value-got.is)
     (sym c.rise_fault-number.ensures ∙ c.if-number-ne0.false)
     c.find_step-step.ensures
-    c.if-not-step.true)) in record { value = both.0; marked = both.1 }
+    (not-true _ c.if-not-step.true))) in record { value = both.0; marked = both.1 }

@@ -1,14 +1,7 @@
-use Prim.Native.Nat.{ℕ}
-use mathlib.Core.Path.{◌≡◌, refl, sym, ap, ◌∙◌}
-use native.Mathlib.Omega.{arith}
-use borrow.Author.Rules.{rules}
-use lib.ListN.{length, length-set}
-use borrow.Author.Tests.{not-true, not-false}
-use Rattle.graph.specs.Reading.{paths_from}
-use Rattle.wire.specs.declared.numbers.Number.TheVariants.{Fault}
+use mathlib.Core.Path.{◌≡◌}
+use lib.ListN.{length}
 use Rattle.graph_paths.specs.PathAnswers.{edges_in}
-use Rattle.graph_paths.proofs.Stepping.{ahead-start, rise_kept}
-use Rattle.graph_paths.proofs.Walking.{Walked, Walking, walked_none, walked_done, walked_stop, walking_start, walking_end, walking_stop, walking_bad, walking_off, walking_next, answer-fault, answer-good}
+use Rattle.graph_paths.proofs.Walking.{Walked, Walking}
 use Rattle.graph_paths.proofs.paths.check_paths.Given as goal
 
 abbrev pub invariant-loop-left : goal.invariant-loop-left
