@@ -36,8 +36,8 @@ pub extern "C" fn toad_read_graph(
     counts: &mut [u32],
 ) -> GraphAnswer
     ensures { GraphRead file.now
-        (record { letters = letters.entry.now; lengths = lengths.old; edges = edges.old; paths = paths.old; counts = counts.old })
-        (record { letters = letters.exit.now; lengths = lengths.new; edges = edges.new; paths = paths.new; counts = counts.new })
+        (record { letters = letters.old; lengths = lengths.old; edges = edges.old; paths = paths.old; counts = counts.old })
+        (record { letters = letters.new; lengths = lengths.new; edges = edges.new; paths = paths.new; counts = counts.new })
         result }
 {
     read_graph(file, letters, lengths, edges, paths, counts)
@@ -72,8 +72,8 @@ pub extern "C" fn toad_read_anchors(
     anchors: &mut [u32],
 ) -> AnchorsAnswer
     ensures { AnchorsRead graph.now file.now
-        (record { letters = letters.entry.now; anchors = anchors.old })
-        (record { letters = letters.exit.now; anchors = anchors.new })
+        (record { letters = letters.old; anchors = anchors.old })
+        (record { letters = letters.new; anchors = anchors.new })
         result }
 {
     read_anchors(graph, file, letters, anchors)
@@ -90,7 +90,7 @@ pub extern "C" fn toad_write_anchors(
     out: &mut [u8],
 ) -> WrittenAnchors
     ensures { AnchorsWritten
-        (record { r = r; n = n; buffers = record { letters = letters.entry.now; anchors = anchors.now } })
+        (record { r = r; n = n; buffers = record { letters = letters.now; anchors = anchors.now } })
         graph.now out.old out.new result }
 {
     write_anchors(r, n, letters, anchors, graph, out)
@@ -105,8 +105,8 @@ pub extern "C" fn toad_tables(
     closed: &mut [u32],
 ) -> TablesAnswer
     ensures { TablesMade file.now
-        (record { reach = reach.entry.now; distance = distance.old; closed = closed.old })
-        (record { reach = reach.exit.now; distance = distance.new; closed = closed.new })
+        (record { reach = reach.old; distance = distance.old; closed = closed.old })
+        (record { reach = reach.new; distance = distance.new; closed = closed.new })
         result }
 {
     tables(file, reach, distance, closed)
@@ -121,8 +121,8 @@ pub extern "C" fn toad_sweep(
     chain: &mut [u32],
 ) -> ChainAnswer
     ensures { ChainFound IsSweep graph.now file.now
-        (record { scores = scores.entry.now; chain = chain.old })
-        (record { scores = scores.exit.now; chain = chain.new })
+        (record { scores = scores.old; chain = chain.old })
+        (record { scores = scores.new; chain = chain.new })
         result }
 {
     sweep(graph, file, scores, chain)
@@ -137,8 +137,8 @@ pub extern "C" fn toad_plain(
     chain: &mut [u32],
 ) -> ChainAnswer
     ensures { ChainFound IsPlain graph.now file.now
-        (record { scores = scores.entry.now; chain = chain.old })
-        (record { scores = scores.exit.now; chain = chain.new })
+        (record { scores = scores.old; chain = chain.old })
+        (record { scores = scores.new; chain = chain.new })
         result }
 {
     plain(graph, file, scores, chain)

@@ -24,7 +24,7 @@ label_places-requires c =
     graph-told c.args.graph.now (sym c.check_graph-first.ensures ∙ c.in-Accepted.is) in
     let t = told in
     let k = few-vertices c.args.graph.now _ _ t.labels in
-    record { labels_at_lem = t.labels; n_in_bounds = (omega (arith, ap length c.label_table-starts.ensures ∙ length-zeros full_lengths), omega (arith, ap length c.label_table-lengths.ensures ∙ length-zeros full_lengths)) }
+    record { labels_at = t.labels; n_in_bounds = (omega (arith, ap length c.label_table-starts.ensures ∙ length-zeros full_lengths), omega (arith, ap length c.label_table-lengths.ensures ∙ length-zeros full_lengths)) }
 
 pub check_over-second-requires : goal.check_over-second-requires
 check_over-second-requires c =

@@ -42,7 +42,7 @@ content_fault-fault-requires c =
     let fine = (graph-told _ (sym c.check_graph-found.ensures ∙ c.in-Accepted.is)).labels in
     let full = room c.args.letters.now c.args.anchors.now c.roomy.ensures c.if-not-roomy.false in
     let sizes = full_buffers (given c.args.r c.args.n c.args.letters.now c.args.anchors.now).buffers full in
-    record { labels_at_lem = fine; full_letters_in_bounds = sizes }
+    record { labels_at = fine; full_letters_in_bounds = sizes }
 
 pub returns-then-fault-ne0 : goal.returns-then-fault-ne0
 returns-then-fault-ne0 c =
