@@ -1,5 +1,5 @@
-// The delivered library: its entries under the names for C and Rust (include/toadtrellis.h). A slice is a pointer and a length; an answer is a
-// struct by value. Each entry calls the layer's own and has the same promise and the same answer, with no demand on its caller.
+// The delivered library: its entries under the names for C and Rust (include/toadtrellis.h), which `toadtrellis_c` exports. Each entry calls the
+// layer's own and has the same promise and the same answer, with no demand on its caller.
 #![tactic(auto)]
 
 ghost use Rattle.graph_content.specs.Used.{given_of};
@@ -26,8 +26,7 @@ pub struct ToadPart {
 }
 
 // Reads a graph file into the buffers.
-#[unsafe(no_mangle)]
-pub extern "C" fn toad_read_graph(
+pub fn toad_read_graph(
     file: &[u8],
     letters: &mut [u8],
     lengths: &mut [u32],
@@ -44,8 +43,7 @@ pub extern "C" fn toad_read_graph(
 }
 
 // Writes the graph file of content: n, m and K, and the buffers.
-#[unsafe(no_mangle)]
-pub extern "C" fn toad_write_graph(
+pub fn toad_write_graph(
     n: u32,
     m: u32,
     k: u32,
@@ -64,8 +62,7 @@ pub extern "C" fn toad_write_graph(
 }
 
 // Reads an anchor file over a graph file into the buffers.
-#[unsafe(no_mangle)]
-pub extern "C" fn toad_read_anchors(
+pub fn toad_read_anchors(
     graph: &[u8],
     file: &[u8],
     letters: &mut [u8],
@@ -80,8 +77,7 @@ pub extern "C" fn toad_read_anchors(
 }
 
 // Writes the anchor file of content over a graph file: r and N, and the buffers.
-#[unsafe(no_mangle)]
-pub extern "C" fn toad_write_anchors(
+pub fn toad_write_anchors(
     r: u32,
     n: u32,
     letters: &[u8],
@@ -97,8 +93,7 @@ pub extern "C" fn toad_write_anchors(
 }
 
 // Makes the tables of a graph file: reach, distance and closed walks.
-#[unsafe(no_mangle)]
-pub extern "C" fn toad_tables(
+pub fn toad_tables(
     file: &[u8],
     reach: &mut [u32],
     distance: &mut [u32],
@@ -113,8 +108,7 @@ pub extern "C" fn toad_tables(
 }
 
 // The sweep: the best score of all chains ending at each anchor, and the chain that is returned.
-#[unsafe(no_mangle)]
-pub extern "C" fn toad_sweep(
+pub fn toad_sweep(
     graph: &[u8],
     file: &[u8],
     scores: &mut [u32],
@@ -129,8 +123,7 @@ pub extern "C" fn toad_sweep(
 }
 
 // The plain pass, which audits the sweep: the same scores and chain, with no rounds.
-#[unsafe(no_mangle)]
-pub extern "C" fn toad_plain(
+pub fn toad_plain(
     graph: &[u8],
     file: &[u8],
     scores: &mut [u32],
@@ -145,8 +138,7 @@ pub extern "C" fn toad_plain(
 }
 
 // Where the letters of one anchor stand in the file named, 1 graph or 2 anchors.
-#[unsafe(no_mangle)]
-pub extern "C" fn toad_letters(graph: &[u8], file: &[u8], number: u32, which: u32) -> ToadPart
+pub fn toad_letters(graph: &[u8], file: &[u8], number: u32, which: u32) -> ToadPart
     ensures { LettersFound graph.now file.now number which result }
 {
     let w = view(graph, file, number, which);
