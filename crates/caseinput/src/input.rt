@@ -6,7 +6,7 @@ use std::io;
 use std::io::Read;
 
 // Reads until the space is full or the input ends. The number of bytes read.
-fn read_full(from: &mut impl Read, space: &mut [u8]) -> io::Result<usize>
+pub fn read_full(from: &mut impl Read, space: &mut [u8]) -> io::Result<usize>
     ensures { IfOk result (λ n. IsPrefixLen n space.new) }
 {
     let mut n: usize = 0;

@@ -14,28 +14,28 @@ pub const BYTE_BEFORE: u8 = 0xEE;
 pub const NUMBER_BEFORE: u32 = 4294967295;
 
 // Writes text.
-pub fn say(out: &mut impl Write, text: &[u8]) -> io::Result<()> {
-    out.write_all(text)
+pub fn say(to: &mut impl Write, text: &[u8]) -> io::Result<()> {
+    to.write_all(text)
 }
 
 // Writes text and a number.
-pub fn say_number(out: &mut impl Write, text: &[u8], x: u64) -> io::Result<()> {
-    say(out, text)?;
-    write!(out, "{x}")
+pub fn say_number(to: &mut impl Write, text: &[u8], x: u64) -> io::Result<()> {
+    say(to, text)?;
+    write!(to, "{x}")
 }
 
 // Writes the first n bytes as hexadecimal digits.
-pub fn say_bytes(out: &mut impl Write, bytes: &[u8], n: usize) -> io::Result<()> {
+pub fn say_bytes(to: &mut impl Write, bytes: &[u8], n: usize) -> io::Result<()> {
     for b in bytes.iter().take(n) {
-        write!(out, " {b:02x}")?;
+        write!(to, " {b:02x}")?;
     }
     Ok(())
 }
 
 // Writes the numbers of n places from a place on.
-pub fn say_numbers(out: &mut impl Write, numbers: &[u32], from: usize, n: usize) -> io::Result<()> {
+pub fn say_numbers(to: &mut impl Write, numbers: &[u32], from: usize, n: usize) -> io::Result<()> {
     for x in numbers.iter().skip(from).take(n) {
-        write!(out, " {x}")?;
+        write!(to, " {x}")?;
     }
     Ok(())
 }

@@ -40,27 +40,27 @@ pub fn part(text: &[u8], k: usize) -> &[u8]
 }
 
 // Writes the number at a place, where it is there.
-fn say_place(out: &mut impl Write, numbers: &[u64], at: usize) -> io::Result<()> {
+fn say_place(to: &mut impl Write, numbers: &[u64], at: usize) -> io::Result<()> {
     if at < numbers.len() {
         let x = numbers[at];
-        write!(out, "{x}")?;
+        write!(to, "{x}")?;
     }
     Ok(())
 }
 
 // Writes a text, with the next of the numbers in place of each `#`.
-pub fn say_filled(out: &mut impl Write, text: &[u8], numbers: &[u64]) -> io::Result<()> {
+pub fn say_filled(to: &mut impl Write, text: &[u8], numbers: &[u64]) -> io::Result<()> {
     let mut at: usize = 0;
     let mut start: usize = 0;
     let mut i: usize = 0;
     while i < text.len() {
         if text[i] == b'#' {
-            out.write_all(&text[start..i])?;
-            say_place(out, numbers, at)?;
+            to.write_all(&text[start..i])?;
+            say_place(to, numbers, at)?;
             at += 1;
             start = i + 1;
         }
         i += 1;
     }
-    out.write_all(&text[start..])
+    to.write_all(&text[start..])
 }
