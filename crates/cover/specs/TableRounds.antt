@@ -1,6 +1,7 @@
 -- The rounds of the tables: where they start, and what a round takes. A row has sixteen cells, the rounds the columns of the K paths; the other cells stay 0.
 use Rattle.std.specs.Prelude.{ℕ, zero, suc, ◌-◌, ◌≡◌, List, [], ◌∷◌, ◌++◌, map, length}
-use Rattle.std.proofs.Math.Logic.{ite, Dec·and}
+use Rattle.std.proofs.Math.Logic.{ite}
+use Rattle.std.proofs.Math.Logic.Dec
 use Rattle.std.proofs.Math.Decide.{ℕ_discrete}
 use Rattle.wire.specs.Sizes.{table_row}
 use Rattle.rounds.specs.Rule.{Links}
@@ -58,7 +59,7 @@ level_links g r = record {
   m = edge_count g;
   source = from g;
   Into = λ v e. (to g e ≡ v) × (r (from g e) ≡ r v);
-  into? = λ v e. Dec·and (ℕ_discrete (to g e) v) (ℕ_discrete (r (from g e)) (r v));
+  into? = λ v e. Dec.and (ℕ_discrete (to g e) v) (ℕ_discrete (r (from g e)) (r v));
 }
 
 -- "distance the least of its own and u's distance plus L(u) over edges u to v whose reach cells are equal"

@@ -1,5 +1,5 @@
 -- Every rule of the graph file, in no order: what content a graph file may have.
-use Rattle.std.specs.Prelude.{ℕ, ◌+◌, ◌≤◌, ◌<◌, ◌≡◌, ◌⊎◌, true, length}
+use Rattle.std.specs.Prelude.{ℕ, ◌≤◌, ◌<◌, ◌≡◌, ◌⊎◌, true, length}
 use mathlib.Core.List.{List, [], ◌∷◌, flatten, Memᴰ}
 use Rattle.wire.specs.Letters.{is_letter}
 use Rattle.wire.specs.Sizes.{most_vertices, most_letters, most_edges, most_paths}

@@ -3,7 +3,7 @@
 use Prim.Native.Nat.{ℕ, zero, suc, ◌+◌, ◌-◌, ◌*◌, ◌≤◌, ◌<◌}
 use mathlib.Core.Path.{◌≡◌, refl, sym, ap, ap₂, ◌∙◌}
 use mathlib.Core.List.{List}
-use mathlib.Core.Bool.{Bool, false, ◌&&◌, ◌||◌, or-true, or_false, or_assoc}
+use mathlib.Core.Bool.{Bool, false, ◌&&◌, ◌||◌, or-true, or-false, or_assoc}
 use native.Mathlib.Omega.{arith}
 use native.Mathlib.Decide.{ℕ_discrete}
 use native.Mathlib.Numerals.{add-one, sub-one}
@@ -30,7 +30,7 @@ pub onward-done : (old : List ℕ) (all : ℕ → Bool) (flags : List ℕ) (rest
     → Flagged old flags all
 onward-done old all flags rest o e = record {
   long = o.long;
-  each = λ v h. sym (or_false (marked flags v)) ∙ ap (λ (b : Bool). ◌||◌ (marked flags v) b) (sym (e v)) ∙ o.each v h;
+  each = λ v h. sym (or-false (marked flags v)) ∙ ap (λ (b : Bool). ◌||◌ (marked flags v) b) (sym (e v)) ∙ o.each v h;
 }
 
 -- ---- a path's vertices
@@ -53,7 +53,7 @@ set-marked flags x v h k g =
       | no n ↦
           let s : get_or (set flags (x - 1) 1) (v - 1) 0 ≡ get_or flags (v - 1) 0 =
           get_or-set_other flags (x - 1) (v - 1) 1 0 (λ z. n (omega arith)) in
-          simp (s, ne_eqb x v n, or_false)
+          simp (s, ne_eqb x v n, or-false)
     ]
 
 pub onward-one : (old : List ℕ) (all : ℕ → Bool) (flags p : List ℕ) (i : ℕ) → i < length p → 1 ≤ get_or p i 0 → get_or p i 0 ≤ length flags

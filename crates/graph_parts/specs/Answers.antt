@@ -4,7 +4,6 @@ use mathlib.Core.List.{List, flatten}
 use Rattle.wire.specs.Cases.{pick}
 use Rattle.wire.specs.Found.{Found, good, fault, Part}
 use Rattle.wire.specs.Numbers.{number_at}
-use Rattle.wire.specs.declared.numbers.Cursor.{Cursor}
 use Rattle.wire.specs.declared.numbers.Number.{Number}
 use Rattle.wire.specs.declared.numbers.Number.TheVariants.{Value, Fault}
 use Rattle.graph.specs.Rules.{range_fault}

@@ -3,7 +3,7 @@
 use Prim.Native.Nat.{ℕ, zero, suc, ◌-◌, ◌≤◌, ◌<◌}
 use mathlib.Core.Path.{◌≡◌, refl, sym, ap, ap₂, ◌∙◌}
 use mathlib.Core.List.{List, [], ◌∷◌, ◌++◌}
-use mathlib.Core.Bool.{Bool, true, false, ◌&&◌, ◌||◌, and-true, and-false, or-true, or_false, or_assoc}
+use mathlib.Core.Bool.{Bool, true, false, ◌&&◌, ◌||◌, and-true, and-false, or-true, or-false, or_assoc}
 use native.Mathlib.Omega.{arith}
 use native.Mathlib.Decide.{ℕ_discrete}
 use native.Mathlib.Numerals.{sub-one}
@@ -64,7 +64,7 @@ on-more ps p v w =
 -- a path of no vertices yet
 pub on_none : (ps : List (List ℕ)) (w : ℕ) → is_on_any (ps ++ ([] ∷ [])) w ≡ is_on_any ps w
 unfolding is_on_any is_on
-on_none ps w = on_any_append ps ([] ∷ []) w ∙ or_false (is_on_any ps w)
+on_none ps w = on_any_append ps ([] ∷ []) w ∙ or-false (is_on_any ps w)
 
 -- ---- what the flags say
 
@@ -107,7 +107,7 @@ marks_more flags n ps qs v h k e m = record { room = simp length-set m.room; eac
               ∙ ap flag_of (sym (e w ∙ ap (λ (t : Bool). is_on_any ps w || t) (eq-eqb v w q) ∙ or-true (is_on_any ps w)))
           | no q ↦ get_or-set_other flags (v - 1) (w - 1) 1 0 (λ z. q (omega arith))
               ∙ m.each w a b
-              ∙ ap flag_of (sym (e w ∙ ap (λ (t : Bool). is_on_any ps w || t) (ne_eqb v w q) ∙ or_false (is_on_any ps w)))
+              ∙ ap flag_of (sym (e w ∙ ap (λ (t : Bool). is_on_any ps w || t) (ne_eqb v w q) ∙ or-false (is_on_any ps w)))
         ]
 
 -- the vertex is added to the last path

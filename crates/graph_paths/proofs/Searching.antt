@@ -2,16 +2,16 @@
 -- Assumes nothing.
 use Prim.Native.Nat.{ℕ, zero, suc, ◌-◌, ◌≤◌, ◌<◌}
 use mathlib.Core.Path.{◌≡◌, refl, sym, ap, ap₂, ◌∙◌}
-use mathlib.Core.Logic.{◌⊎◌, inl, inr}
+use mathlib.Core.Logic.{inl, inr}
 use mathlib.Core.List.{List, [], ◌∷◌, ◌++◌}
-use mathlib.Core.Bool.{Bool, true, false, ◌&&◌, ◌||◌, or_false}
+use mathlib.Core.Bool.{Bool, true, false, ◌&&◌, ◌||◌, or-false}
 use native.Mathlib.Omega.{arith}
 use native.Mathlib.Numerals.{sub-one}
 use native.Mathlib.Decide.{ℕ_discrete}
 use lib.Dec.{ltb, eqb}
 use borrow.Author.Tests.{ltb-true, ltb-false, eqb-true, eq-eqb, ne_eqb}
 use Rattle.wire.specs.Cases.{pick}
-use Rattle.wire.specs.Found.{Found, good, Part}
+use Rattle.wire.specs.Found.{good, Part}
 use Rattle.wire.specs.Numbers.{number_at}
 use Rattle.wire.specs.declared.numbers.Cursor.{Cursor}
 use Rattle.wire.specs.declared.numbers.Number.{Number}
@@ -181,7 +181,7 @@ searched_end n left last s at p u v e t g =
     let w = above-not d t.rest.content u v (edges-above n left d s t.b.at t.rest t.rest_is) g in
     rw (search_end (suc left) s at u v (omega arith) t.u_is t.v_is g)
     (record {
-      found = sym (ap (λ (es : List Edge). is_edge es u v) t.content ∙ ap (λ (b : Bool). ◌||◌ (same_edge d u v) b) w ∙ or_false (same_edge d u v));
+      found = sym (ap (λ (es : List Edge). is_edge es u v) t.content ∙ ap (λ (b : Bool). ◌||◌ (same_edge d u v) b) w ∙ or-false (same_edge d u v));
       passed = [];
       ahead = p.content;
       whole = refl;

@@ -2,7 +2,6 @@
 use Rattle.std.specs.Prelude.{ℕ, zero, suc, List, Bool, true, false, ◌&&◌, eqb}
 use Rattle.wire.specs.Cases.{pick}
 use Rattle.wire.specs.Numbers.{number_at}
-use Rattle.wire.specs.declared.numbers.Cursor.{Cursor}
 use Rattle.wire.specs.declared.numbers.Number.{Number}
 use Rattle.wire.specs.declared.numbers.Number.TheVariants.{Value, Fault}
 use Rattle.graph.specs.Content.{Edge}

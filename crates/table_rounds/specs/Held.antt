@@ -1,6 +1,6 @@
 -- A graph's content as it lies in lent buffers, and the rules of the rounds over it.
 use Rattle.std.specs.Prelude.{ℕ, ◌+◌, ◌-◌, ◌*◌, ◌≤◌, ◌<◌, ◌^◌, ◌≡◌, List, length, get_or, take, drop}
-use Rattle.std.proofs.Math.Logic.{Dec·and}
+use Rattle.std.proofs.Math.Logic.Dec
 use Rattle.std.proofs.Math.Decide.{ℕ_discrete}
 use Rattle.wire.specs.Sizes.{table_row, path_room, full_paths, full_counts}
 use Rattle.rounds.specs.Rounds.{Within, sweep, iterate}
@@ -59,7 +59,7 @@ held_levels m edges r = record {
   m = m;
   source = source edges;
   Into = λ v e. (target edges e ≡ v) × (r (source edges e) ≡ r v);
-  into? = λ v e. Dec·and (ℕ_discrete (target edges e) v) (ℕ_discrete (r (source edges e)) (r v));
+  into? = λ v e. Dec.and (ℕ_discrete (target edges e) v) (ℕ_discrete (r (source edges e)) (r v));
 }
 
 -- "Reach takes the greatest of its own value and those over edges into v"

@@ -1,13 +1,12 @@
 -- Letters: what is known of a byte that is a letter, and of two letters that agree.
 -- Assumes nothing.
 use Prim.Native.Nat.{ℕ, ◌<◌}
-use mathlib.Core.Path.{◌≡◌, refl, sym, ap, ◌∙◌}
-use mathlib.Core.Bool.{Bool, true, false, ◌&&◌}
+use mathlib.Core.Path.{◌≡◌, refl}
+use mathlib.Core.Bool.{true, false}
 use native.Mathlib.Omega.{arith}
 use native.Mathlib.Decide.{ℕ_discrete}
-use lib.Dec.{eqb}
 use borrow.Author.Tests.{eq-eqb, ne_eqb}
-use Rattle.wire.specs.Letters.{letter_of, named, is_letter, agree}
+use Rattle.wire.specs.Letters.{letter_of, is_letter, agree}
 
 -- a letter is a byte
 pub letter_byte : (b : ℕ) → is_letter b ≡ true → b < 128

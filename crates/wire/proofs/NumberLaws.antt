@@ -1,19 +1,17 @@
 -- What callers need of the format: a number that was written is read back; what was read is the bytes of its encoding; a refusal is 1 or 2.
 -- Assumes nothing.
 use Prim.Native.Nat.{ℕ, zero, suc, ◌+◌, ◌-◌, ◌*◌, ◌/◌, ◌%◌, ◌^◌, ◌≤◌, ◌<◌}
-use mathlib.Core.Path.{◌≡◌, refl, sym, ap, ap₂, ◌∙◌, subst}
+use mathlib.Core.Path.{◌≡◌, sym, ap, ap₂, ◌∙◌, subst}
 use mathlib.Core.Logic.{◌⊎◌, inl, inr}
 use mathlib.Core.List.{List, [], ◌∷◌, ◌++◌}
 use native.Mathlib.Omega.{arith}
 use native.Mathlib.Nat.{add-mul, mul_assoc, mul_comm, mul_left_comm}
 use lib.ListN.{length, get_or, take, drop, length-append, length-drop}
 use lib.Seq.{drop-append_seam, take-append_seam, get_or-drop, drop-drop, take-nil, length-take-le}
-use borrow.Author.Tests.{lt-ltb, le-ltb}
 use Rattle.wire.specs.Numbers.{encode_in, encode}
 use Rattle.wire.specs.Refusals.{bytes_end, bad_number}
 use Rattle.wire.specs.Numbers.{ended, number_in, number_at}
 use Rattle.wire.specs.declared.numbers.Cursor.{Cursor}
-use Rattle.wire.specs.declared.numbers.Number.{Number}
 use Rattle.wire.specs.declared.numbers.Number.TheVariants.{Value, Fault}
 use Rattle.wire.proofs.Reading.{ended-refused, ended_whole, ended-first, none_in, great_in, fifth_in, last_in, next_in}
 use Rattle.wire.proofs.Encoding.{split, one_in, more_in, encode-some}

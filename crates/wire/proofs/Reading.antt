@@ -1,20 +1,17 @@
 -- The steps of `number_in` at a place of a file, as equations: what the reader's loop goes by.
 -- Assumes nothing.
 use Prim.Native.Nat.{ℕ, zero, suc, ◌+◌, ◌-◌, ◌*◌, ◌^◌, ◌≤◌, ◌<◌}
-use mathlib.Core.Path.{◌≡◌, refl, sym, ap, ap₂, ◌∙◌, subst}
-use mathlib.Core.Logic.{◌⊎◌, inl, inr}
+use mathlib.Core.Path.{◌≡◌, refl, sym, ap₂, ◌∙◌}
 use mathlib.Core.List.{List, [], ◌∷◌}
-use mathlib.Core.Bool.{Bool, true, false, ◌&&◌, and-false}
+use mathlib.Core.Bool.{and-false}
 use native.Mathlib.Omega.{arith}
 use native.Mathlib.Numerals.{add-one, sub-one}
 use lib.ListN.{length, get_or, drop, drop_of_length-le}
 use lib.Seq.{drop-cons}
-use lib.Dec.{ltb, eqb}
 use lib.Arith.{digits_lt}
 use borrow.Author.Tests.{lt-ltb, le-ltb, eq-eqb, ne_eqb}
 use Rattle.wire.specs.Refusals.{bytes_end, bad_number}
-use Rattle.wire.specs.Numbers.{ended, number_in, number_at}
-use Rattle.wire.specs.declared.numbers.Number.{Number}
+use Rattle.wire.specs.Numbers.{ended, number_in}
 use Rattle.wire.specs.declared.numbers.Number.TheVariants.{Value, Fault}
 
 pub ended-refused : (b start at w acc : ℕ) → b ≡ 0 → start < at → ended b start at w acc ≡ Fault bad_number start

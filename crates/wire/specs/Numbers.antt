@@ -1,8 +1,7 @@
 -- A number as it stands in a file: its encoding, and what reading at a place finds.
-use Rattle.std.specs.Prelude.{ℕ, zero, suc, ◌+◌, ◌-◌, ◌*◌, ◌/◌, ◌%◌, List, [], ◌∷◌, Bool, true, false, ◌&&◌, length, drop, ltb, eqb}
+use Rattle.std.specs.Prelude.{ℕ, zero, suc, ◌+◌, ◌-◌, ◌*◌, ◌/◌, ◌%◌, List, [], ◌∷◌, ◌&&◌, length, drop, ltb, eqb}
 use Rattle.wire.specs.Cases.{pick}
 use Rattle.wire.specs.Refusals.{bytes_end, bad_number}
-use Rattle.wire.specs.declared.numbers.Cursor.{Cursor}
 use Rattle.wire.specs.declared.numbers.Number.{Number}
 use Rattle.wire.specs.declared.numbers.Number.TheVariants.{Value, Fault}
 
