@@ -192,10 +192,8 @@ fn say_byte(to: &mut impl Write, b: u8) -> io::Result<()> {
 
 // Writes bytes as hexadecimal digits.
 fn say_bytes(to: &mut impl Write, bytes: &[u8]) -> io::Result<()> {
-    let mut i = 0;
-    while i < bytes.len() {
-        say_byte(to, bytes[i])?;
-        i += 1;
+    for b in bytes {
+        say_byte(to, *b)?;
     }
     Ok(())
 }
