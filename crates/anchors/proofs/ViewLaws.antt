@@ -20,7 +20,6 @@ use Rattle.wire.proofs.Alphabet.{agree_same}
 use Rattle.wire.proofs.Encoding.{split}
 use Rattle.wire.proofs.NumberLaws.{Bytes, number-within}
 use Rattle.graph.specs.Content.{vertex_count}
-use Rattle.graph.specs.Good.{All}
 use Rattle.graph.specs.Encode.{encode_labels}
 use Rattle.graph.proofs.Accepting.{letters-read}
 use Rattle.graph.proofs.Parted.{parts}

@@ -1,12 +1,12 @@
 -- The rules of the anchor file, each as the refusal number that it gives, 0 for none. The reader and the writer go by these alone.
-use Rattle.std.specs.Prelude.{ℕ, zero, suc, ◌+◌, ◌-◌, List, [], Bool, true, false, ◌&&◌, ◌||◌, length, get_or, ltb, leb, eqb}
+use Rattle.std.specs.Prelude.{ℕ, zero, suc, ◌+◌, ◌-◌, List, [], Bool, true, ◌&&◌, ◌||◌, length, get_or, ltb, leb, eqb}
 use Rattle.wire.specs.Cases.{pick}
 use Rattle.wire.specs.Letters.{agree}
 use Rattle.wire.specs.Refusals.{out_of_range, no_vertex, not_rising, outside, letters_differ}
 use Rattle.wire.specs.Sizes.{most_read, most_anchors, most_weight}
 use Rattle.graph.specs.Content.{Graph, vertex_count}
 use Rattle.graph.specs.Rules.{range_fault, is_vertex}
-use Rattle.anchors.specs.Anchors.{Anchor, y, d}
+use Rattle.anchors.specs.Anchors.{Anchor, y}
 
 -- "r, N | 1 to 32,768, 0 to 2,048"
 abbrev pub read_fault : ℕ → ℕ

@@ -1,5 +1,5 @@
 -- The view of an anchor's letters: which part of which file.
-use Rattle.std.specs.Prelude.{ℕ, zero, suc, ◌+◌, ◌-◌, List, [], ◌∷◌, Bool, true, false, ◌&&◌, length, get_or, take, drop, leb, eqb}
+use Rattle.std.specs.Prelude.{ℕ, ◌+◌, ◌-◌, List, ◌&&◌, length, get_or, take, drop, leb, eqb}
 use Rattle.wire.specs.Cases.{pick}
 use Rattle.wire.specs.Found.{Reply, accepted, refused}
 use Rattle.wire.specs.Numbers.{encode}

@@ -32,9 +32,9 @@ pub fn put_anchors(r: u32, n: u32, letters: &[u8], anchors: &[u32], out: &mut [u
     requires anchors_in_bounds { length (encode_anchors (set_in
         (record { r = r; n = n; buffers = record { letters = letters.now; anchors = anchors.now } }))) ≤ length out.old }
     ensures { (result ≡ length (encode_anchors (set_in
-        (record { r = r; n = n; buffers = record { letters = letters.entry.now; anchors = anchors.now } }))))
+        (record { r = r; n = n; buffers = record { letters = letters.now; anchors = anchors.now } }))))
         × (out.new ≡ front (encode_anchors (set_in
-        (record { r = r; n = n; buffers = record { letters = letters.entry.now; anchors = anchors.now } }))) out.old) }
+        (record { r = r; n = n; buffers = record { letters = letters.now; anchors = anchors.now } }))) out.old) }
 {
     let end = PER_ANCHOR * wide(n);
     let read = wide(r);

@@ -85,7 +85,7 @@ pub fn content_fault(
     requires labels_at_lem { LabelsAt graph.now labels vertices }
     requires full_letters_in_bounds { (full_letters ≤ length letters.now) × (full_anchors ≤ length anchors.now) }
     ensures { result ≡ refusal_number (anchors_given (content_of graph.now)
-        (record { r = r; n = n; buffers = record { letters = letters.entry.now; anchors = anchors.now } })) }
+        (record { r = r; n = n; buffers = record { letters = letters.now; anchors = anchors.now } })) }
 {
     let read = range_fault(1, MOST_READ, r);
     if read != 0 {

@@ -1,7 +1,7 @@
 -- The anchors of an accepted file are the numbers that the fill takes from it.
 -- Assumes nothing.
 use Prim.Native.Nat.{ℕ, zero, suc, ◌*◌}
-use mathlib.Core.Path.{◌≡◌, sym, ap, ◌∙◌}
+use mathlib.Core.Path.{◌≡◌, ap, ◌∙◌}
 use mathlib.Core.List.{List}
 use native.Mathlib.Omega.{arith}
 use Rattle.wire.specs.Found.{good, Part}

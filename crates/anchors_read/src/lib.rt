@@ -55,8 +55,8 @@ pub fn read_anchors(
     anchors: &mut [u32],
 ) -> AnchorsAnswer
     ensures { Answered graph.now file.now
-        (record { letters = letters.entry.now; anchors = anchors.old })
-        (record { letters = letters.exit.now; anchors = anchors.new })
+        (record { letters = letters.old; anchors = anchors.old })
+        (record { letters = letters.new; anchors = anchors.new })
         result }
 {
     if !roomy(letters.len(), anchors.len()) {

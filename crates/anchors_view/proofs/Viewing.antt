@@ -10,7 +10,7 @@ use lib.ListN.{length, get_or, take, drop}
 use lib.Dec.{eqb}
 use borrow.Author.Tests.{le-leb, lt-leb, eq-eqb, ne_eqb}
 use Rattle.wire.specs.Cases.{pick}
-use Rattle.wire.specs.Found.{good, Reply, accepted, refused, in_file}
+use Rattle.wire.specs.Found.{good, Reply, accepted, refused}
 use Rattle.wire.specs.Refusals.{graph_file, anchor_file}
 use Rattle.wire.specs.Sizes.{most_file_bytes}
 use Rattle.wire.proofs.Encoding.{split}

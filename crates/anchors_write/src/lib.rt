@@ -43,7 +43,7 @@ pub fn write_anchors(
     out: &mut [u8],
 ) -> WrittenAnchors
     ensures { Written
-        (record { r = r; n = n; buffers = record { letters = letters.entry.now; anchors = anchors.now } })
+        (record { r = r; n = n; buffers = record { letters = letters.now; anchors = anchors.now } })
         graph.now out.old out.new result }
 {
     if !roomy(letters.len(), anchors.len()) {

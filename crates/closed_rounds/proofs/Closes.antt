@@ -1,14 +1,13 @@
 -- The loop over sixteen closed walks, and the loop over all of them. Assumes nothing.
-use Prim.Native.Nat.{ℕ, zero, suc, ◌+◌, ◌-◌, ◌*◌, ◌≤◌, ◌<◌}
+use Prim.Native.Nat.{ℕ, ◌+◌, ◌-◌, ◌≤◌, ◌<◌}
 use mathlib.Core.Path.{◌≡◌, refl, sym, ap, ◌∙◌, subst}
-use mathlib.Core.Logic.{◌⊎◌, inl, inr}
 use mathlib.Core.List.{List}
 use native.Mathlib.Decide.{ℕ_discrete, dec_le}
 use native.Mathlib.Omega.{arith}
 use lib.ListN.{length, get_or, set, length-set}
 use lib.Seq.{get_or-set_same, get_or-set_other}
 use Rattle.wire.specs.Sizes.{table_row}
-use Rattle.rounds.specs.Rounds.{Within, Rounds, sweep, iterate}
+use Rattle.rounds.specs.Rounds.{Within, Rounds, sweep}
 use Rattle.rounds.specs.Rule.{Rule}
 use Rattle.rounds.specs.Place.{cell_place}
 use Rattle.rounds.specs.Table.{table_round, entry}

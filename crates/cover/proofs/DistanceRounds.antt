@@ -77,20 +77,20 @@ module _ (g : Graph) (sources : Sources (vertex_count g) (edge_links g)) (p : Li
       go (inr h) = (is v w).greatest (r u) (record { on = h.on; far = h.far + L g u; walk = more h.walk e })
 
   -- a walk from the reached vertex keeps to vertices of the same reach
-  walk-derived : (j : ℕ) → Within (length p) j → {v l : ℕ} → Walk g (vertex p j) v l → Within (vertex_count g) v → r v ≡ j → Derived (distance_column g p r) v (suc l)
+  walk-derived : (j x : ℕ) → x ≡ vertex p j → Within (length p) j → {v l : ℕ} → Walk g x v l → Within (vertex_count g) v → r v ≡ j → Derived (distance_column g p r) v (suc l)
   unfolding shift
-  walk-derived j on here w e = subst (Derived (distance_column g p r) (vertex p j)) (home-one p (r (vertex p j)) (vertex p j) (omega arith) (ap (vertex p) e)) start
-  walk-derived j on {v} (more {v = u} {l = k} y a) w e =
+  walk-derived j x q on here w e = subst (Derived (distance_column g p r) x) (home-one p (r x) x (omega arith) (ap (vertex p) e ∙ sym q)) start
+  walk-derived j x q on {v} (more {v = u} {l = k} y a) w e =
       let wu : Within (vertex_count g) u = edge-source sources a in
-      let eu : r u ≡ j = le_antisymm (omega (arith, reach-edge a w)) ((is u wu).greatest j (record { on = on; far = k; walk = y })) in
+      let eu : r u ≡ j = le_antisymm (omega (arith, reach-edge a w)) ((is u wu).greatest j (record { on = on; far = k; walk = subst (λ (z : ℕ). Walk g z u k) q y })) in
       subst (Derived (distance_column g p r) v) (carried a)
-      (along (walk-derived j on y wu eu) (record { e = a.number; listed = a.listed; leaves = a.leaves; enters = (a.enters, ap r a.leaves ∙ eu ∙ sym e) }))
+      (along (walk-derived j x q on y wu eu) (record { e = a.number; listed = a.listed; leaves = a.leaves; enters = (a.enters, ap r a.leaves ∙ eu ∙ sym e) }))
     where
       carried : (a : Joined g u v) → shift (suc k) (L g (from g a.number)) ≡ suc (k + L g u)
       carried a = ap (λ (y : ℕ). suc (k + L g y)) a.leaves
 
   leads_derived : {v l : ℕ} → Within (vertex_count g) v → Leads g p (r v) v l → Derived (distance_column g p r) v (suc l)
-  leads_derived w h = walk-derived _ h.on h.walk w refl
+  leads_derived w h = walk-derived _ _ refl h.on h.walk w refl
 
   pub best-distance : {v x : ℕ} → Within (vertex_count g) v → Best (distance_column g p r) v x → IsDistance g p (r v) v (x - 1)
   unfolding Near

@@ -132,13 +132,13 @@ module _ (g : Graph) (p : List ℕ) (a sum : ℕ) where
 pub leasts_back : {n : ℕ} {C : ℕ → ℕ → Type 0} {row : List ℕ} (g : Graph) (p : List ℕ) (a sum : ℕ) → ((b : ℕ) → Within a b → Within n (vertex p b)) → Leasts n C row
     → Leasts n (λ u s. C u s ⊎ Behind g p a sum u s) (back g p a sum row)
 unfolding back
-leasts_back g p zero sum on r = leasts_map (λ u s c. inl c) (λ u s x. only x) r
+leasts_back {C = C} g p zero sum on r = leasts_map (λ u s c. inl c) (λ u s x. only x) r
   where
     only : {X : Type 0} {u s : ℕ} → X ⊎ Behind g p zero sum u s → X
     only (inl c) = c
     only (inr x) = absurd (within_none x.at)
-leasts_back {n} {C} {row} g p (suc a) sum on r = leasts_map (λ u s c. to c) (λ u s c. from c)
-    (leasts_back g p a (below g p a sum) (λ b w. on b (within-suc w)) (leasts_put (vertex p (suc a)) sum (on (suc a) (within-last a)) r))
+leasts_back {n} {C = C} {row} g p (suc a) sum on r = leasts_map (λ u s c. to c) (λ u s c. from c)
+    (leasts_back {C = λ u s. C u s ⊎ ((u ≡ vertex p (suc a)) × (s ≡ sum))} g p a (below g p a sum) (λ b w. on b (within-suc w)) (leasts_put (vertex p (suc a)) sum (on (suc a) (within-last a)) r))
   where
     to : {u s : ℕ} → (C u s ⊎ ((u ≡ vertex p (suc a)) × (s ≡ sum))) ⊎ Behind g p a (below g p a sum) u s → C u s ⊎ Behind g p (suc a) sum u s
     to (inl (inl c)) = inl c

@@ -8,7 +8,7 @@ use native.Mathlib.Omega.{arith}
 use lib.ListN.{length}
 use lib.Dec.{leb}
 use borrow.Author.Tests.{leb-true}
-use Rattle.wire.specs.Found.{Found, good, fault, Part, accepted, refused}
+use Rattle.wire.specs.Found.{Found, good, fault, Part, refused}
 use Rattle.wire.specs.Lent.{laid}
 use Rattle.wire.specs.Refusals.{small_buffer, graph_file}
 use Rattle.wire.specs.Sizes.{most_edges, path_room, full_letters, full_lengths, full_edges, full_paths, full_counts}

@@ -83,7 +83,7 @@ pub fn begin(
     numbers: &mut [u32],
 ) -> AnchorsAnswer
     requires { (full_letters ≤ length letters.old) × (full_anchors ≤ length numbers.old) }
-    ensures { Begun graph.now file.now (record { scores = scores.entry.now; chain = chain.now }) numbers.new result }
+    ensures { Begun graph.now file.now (record { scores = scores.now; chain = chain.now }) numbers.new result }
 {
     if !roomy(scores.len(), chain.len()) {
         return AnchorsAnswer {

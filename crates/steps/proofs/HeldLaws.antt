@@ -16,8 +16,7 @@ use Rattle.chain.specs.Chains.{Chain, one, more, IsBest}
 use Rattle.chain.proofs.StepLaws.{Sound, good_sound, step-one, step-rises}
 use Rattle.chain.proofs.BestScores.{chain-within, follows_best}
 use Rattle.pair_step.specs.Pairs.{Greatest}
-use Rattle.steps.specs.Setting.{Setting, anchor_of, step_of, Holds, Prepared}
-use Rattle.steps.specs.Scores.{AllBest, Scored}
+use Rattle.steps.specs.Setting.{Setting, anchor_of, step_of, Holds}
 use Rattle.steps.proofs.SettingLaws.{anchor-fits, held-not, held-step}
 
 module _ {s : Setting} {g : Graph} {a : AnchorSet} (H : Holds s g a) where

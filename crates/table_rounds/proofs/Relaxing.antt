@@ -1,7 +1,7 @@
 -- A walk along the edges into a vertex: what each turn adds to a row of a table, by any rules; of reach, distance and least walks. Assumes nothing.
-use Prim.Native.Nat.{ℕ, zero, suc, ◌+◌, ◌-◌, ◌*◌, ◌≤◌, ◌<◌, ◌^◌, max}
-use mathlib.Core.Path.{◌≡◌, refl, sym, ap, ◌∙◌, subst}
-use mathlib.Core.Logic.{◌≢◌, ◌⊎◌, inl, inr}
+use Prim.Native.Nat.{ℕ, ◌+◌, ◌-◌, ◌*◌, ◌≤◌, ◌<◌, ◌^◌, max}
+use mathlib.Core.Path.{◌≡◌, sym, ap, ◌∙◌}
+use mathlib.Core.Logic.{◌≢◌}
 use mathlib.Core.List.{List}
 use native.Mathlib.Decide.{ℕ_discrete}
 use native.Mathlib.Omega.{arith}
@@ -17,7 +17,7 @@ use Rattle.rounds.proofs.Upto.{within}
 use Rattle.rounds.proofs.Gather.{gather_none, gather-take, gather_skip}
 use Rattle.table_rows.specs.Lanes.{Lanes, brought}
 use Rattle.table_rows.specs.HeldEdges.{source, target}
-use Rattle.table_rounds.specs.Held.{label_length, held_links, raise, near, onward, Fitting}
+use Rattle.table_rounds.specs.Held.{label_length, raise, near, onward, Fitting}
 use Rattle.table_rows.proofs.Laning.{brought_level, brought-none, closer-none}
 use Rattle.table_rows.specs.Lists.{IsNext}
 use Rattle.table_rows.proofs.Linking.{Passes, gather_idle, Walking, walk-on, walk_turn, walk_end}

@@ -1,9 +1,9 @@
 -- A row of sixteen cells: filled lane by lane, and written into a table. Assumes nothing.
-use Prim.Native.Nat.{ℕ, zero, suc, ◌+◌, ◌-◌, ◌*◌, ◌≤◌, ◌<◌, min}
+use Prim.Native.Nat.{ℕ, zero, suc, ◌+◌, ◌-◌, ◌*◌, ◌≤◌, ◌<◌}
 use mathlib.Core.Path.{◌≡◌, refl, sym, ap, ◌∙◌}
-use mathlib.Core.Logic.{◌≢◌, ◌⊎◌, inl, inr, ite, if_pos, if_neg}
+use mathlib.Core.Logic.{◌≢◌, if_pos, if_neg}
 use mathlib.Core.List.{List}
-use native.Mathlib.Nat.{le_refl, eq-or-lt_of_le}
+use native.Mathlib.Nat.{le_refl}
 use native.Mathlib.Decide.{ℕ_discrete}
 use native.Mathlib.Omega.{arith}
 use lib.ListN.{length, get_or, set, length-set}

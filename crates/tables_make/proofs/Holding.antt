@@ -1,11 +1,11 @@
 -- What the reader leaves in buffers of full size is the graph's content. Assumes nothing.
-use Prim.Native.Nat.{ℕ, zero, suc, ◌+◌, ◌-◌, ◌*◌, ◌≤◌, ◌<◌}
-use mathlib.Core.Path.{◌≡◌, refl, sym, ap, ◌∙◌, subst}
+use Prim.Native.Nat.{ℕ, ◌+◌, ◌-◌, ◌*◌, ◌≤◌, ◌<◌}
+use mathlib.Core.Path.{◌≡◌, refl, ◌∙◌}
 use mathlib.Core.List.{List, [], ◌∷◌}
 use native.Mathlib.Omega.{arith}
 use lib.ListN.{length, get_or, take, drop, length-map, length-take, length-drop}
 use lib.Seq.{get_or-take, get_or-drop, ext_get_or}
-use Rattle.wire.specs.Sizes.{table_row, path_room, most_vertices, full_lengths, full_edges, full_paths, full_counts}
+use Rattle.wire.specs.Sizes.{table_row, path_room, full_lengths, full_edges, full_paths, full_counts}
 use Rattle.wire.specs.Lent.{laid}
 use Rattle.wire.proofs.Laying.{laid_at, length-laid}
 use Rattle.rounds.specs.Rounds.{Within}
@@ -14,7 +14,6 @@ use Rattle.graph.specs.Content.{Edge, Graph, vertex_count, edge_count, path_coun
 use Rattle.graph.specs.Good.{All, GoodGraph}
 use Rattle.graph.specs.Entries.{Buffers, filled}
 use Rattle.graph_fill.proofs.Packing.{length-rooms}
-use Rattle.cover.specs.Walks.{L, from, to}
 use Rattle.cover.specs.Cells.{vertex}
 use Rattle.cover.specs.CoverDistance.{path_at}
 use Rattle.cover.proofs.GoodLaws.{path-short}

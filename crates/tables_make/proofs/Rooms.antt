@@ -1,10 +1,10 @@
 -- Rooms of zeros, and their front parts. Assumes nothing.
-use Prim.Native.Nat.{ℕ, zero, suc, ◌≤◌, ◌<◌}
-use mathlib.Core.Path.{◌≡◌, refl, sym, ap, ◌∙◌}
+use Prim.Native.Nat.{ℕ, zero, suc, ◌≤◌}
+use mathlib.Core.Path.{◌≡◌, refl, ap, ◌∙◌}
 use mathlib.Core.List.{List}
 use native.Mathlib.Decide.{dec_le}
 use native.Mathlib.Omega.{arith}
-use lib.ListN.{length, get_or, take, replicate, length-replicate, length-take, get_or-eq_default}
+use lib.ListN.{length, get_or, take, length-replicate, length-take, get_or-eq_default}
 use lib.Seq.{get_or-take, length-take-le}
 use Rattle.tables_make.specs.Made.{zeros}
 

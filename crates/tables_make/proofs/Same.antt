@@ -2,8 +2,6 @@
 use Prim.Native.Nat.{ℕ, zero, suc}
 use mathlib.Core.Path.{◌≡◌, refl, ap, ◌∙◌}
 use mathlib.Core.Logic.{ite}
-use mathlib.Core.List.{List}
-use native.Mathlib.Nat.{le_refl}
 use lib.ListN.{set}
 use Rattle.rounds.specs.Rounds.{Within, sweep}
 use Rattle.rounds.specs.Gather.{gather}

@@ -1,28 +1,20 @@
 -- A walk back: what each edge into a vertex brings from a column of a table. Assumes nothing.
-use Prim.Native.Nat.{ℕ, zero, suc, ◌+◌, ◌-◌, ◌*◌, ◌≤◌, ◌<◌, ◌^◌, max}
-use mathlib.Core.Path.{◌≡◌, refl, sym, ap, ◌∙◌, subst}
-use mathlib.Core.Logic.{◌≢◌, ◌⊎◌, inl, inr}
+use Prim.Native.Nat.{ℕ, ◌+◌, ◌-◌, ◌*◌, ◌≤◌}
+use mathlib.Core.Path.{◌≡◌, sym, ◌∙◌, subst}
+use mathlib.Core.Logic.{◌≢◌}
 use mathlib.Core.List.{List}
-use native.Mathlib.Decide.{ℕ_discrete}
 use native.Mathlib.Omega.{arith}
-use lib.ListN.{length, get_or}
-use Rattle.wire.specs.Sizes.{table_row}
-use Rattle.rounds.specs.Rounds.{Within}
-use Rattle.rounds.specs.Gather.{gather}
-use Rattle.rounds.specs.Rule.{Rule, value}
+use lib.ListN.{get_or}
 use Rattle.rounds.specs.Place.{cell_place}
 use Rattle.rounds.specs.Table.{cell}
 use Rattle.rounds.specs.Kinds.{shift, closer}
-use Rattle.rounds.proofs.Upto.{within}
-use Rattle.rounds.proofs.Gather.{gather_none, gather-take, gather_skip}
-use Rattle.table_rows.specs.Lanes.{Lanes, brought}
+use Rattle.rounds.proofs.Gather.{gather_none}
 use Rattle.table_rows.specs.HeldEdges.{source, target}
-use Rattle.table_rounds.specs.Held.{label_length, held_links, raise, near, onward, Fitting}
+use Rattle.table_rounds.specs.Held.{label_length, held_links}
 use Rattle.walk_back.specs.Back.{back_by}
-use Rattle.table_rows.proofs.Laning.{brought_level, brought-none, closer-none}
 use Rattle.table_rows.specs.Lists.{IsNext}
 use Rattle.table_rows.proofs.Linking.{Passes, gather_idle, Walking, walk-on, walk_turn, walk_end}
-use Rattle.table_rounds.proofs.Relaxing.{take_last, skip_last, at_cell, over-cell}
+use Rattle.table_rounds.proofs.Relaxing.{take_last, over-cell}
 
 module _ (lengths edges table : List ℕ) (v i : ℕ) where
   pub back_none : 0 ≡ back_by lengths edges table v (i + 1) 0
