@@ -12,15 +12,13 @@ use telling::{say, say_number};
 
 // Writes a signed number, of which the magnitude is below 1,000: the number that it is, or whose negative it is.
 fn say_signed(to: &mut impl Write, x: i64) -> io::Result<()> {
-    let mut size: u32 = 0;
-    while size < 1000 {
+    for size in 0..1000 {
         if x == candidate(0, size, 0) {
             return say_number(to, b" candidate ", size as u64);
         }
         if x == candidate(0, 0, size) {
             return say_number(to, b" candidate -", size as u64);
         }
-        size += 1;
     }
     Ok(())
 }
