@@ -75,10 +75,8 @@ fn length_of(v: u32, longer: u32) -> u32 {
 fn set_lengths(lengths: &mut [u32], vertices: u32, longer: u32)
     requires { vertices ≤ 1024 }
 {
-    let mut v: u32 = 0;
-    while v < vertices {
+    for v in 0..vertices {
         set_number(lengths, v as usize, length_of(v, longer));
-        v += 1;
     }
 }
 
@@ -86,12 +84,10 @@ fn set_lengths(lengths: &mut [u32], vertices: u32, longer: u32)
 fn set_edges(edges: &mut [u32], vertices: u32)
     requires { vertices ≤ 1024 }
 {
-    let mut v: u32 = 1;
-    while v < vertices {
+    for v in 1..vertices {
         let at = 2 * (v as usize) - 2;
         set_number(edges, at, v);
         set_number(edges, at + 1, v + 1);
-        v += 1;
     }
 }
 
@@ -99,20 +95,16 @@ fn set_edges(edges: &mut [u32], vertices: u32)
 fn set_stop(paths: &mut [u32], v: u32)
     requires { v < 1024 }
 {
-    let mut i: usize = 0;
-    while i < 16 {
+    for i in 0..16 {
         set_number(paths, 1024 * i + (v as usize), v + 1);
-        i += 1;
     }
 }
 
 fn set_paths(paths: &mut [u32], vertices: u32)
     requires { vertices ≤ 1024 }
 {
-    let mut v: u32 = 0;
-    while v < vertices {
+    for v in 0..vertices {
         set_stop(paths, v);
-        v += 1;
     }
 }
 
@@ -242,10 +234,8 @@ fn run_named(to: &mut impl Write, text: &[u8], name: &[u8], changes: &[u8]) -> i
 // Runs every case, each of which has two parts of the text.
 fn run_all(to: &mut impl Write, text: &[u8]) -> io::Result<()> {
     let cases = parts(text) / 2;
-    let mut k: usize = 1;
-    while k < cases {
+    for k in 1..cases {
         run_named(to, text, part(text, 2 * k), part(text, 2 * k + 1))?;
-        k += 1;
     }
     Ok(())
 }
