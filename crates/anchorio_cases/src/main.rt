@@ -252,10 +252,8 @@ fn write(to: &mut impl Write, text: &[u8], name: &[u8], changes: &[u8]) -> io::R
 // Runs every case of the writer, each of which has two parts of the text.
 fn write_all(to: &mut impl Write, text: &[u8]) -> io::Result<()> {
     let cases = parts(text) / 2;
-    let mut k: usize = 2;
-    while k < cases {
+    for k in 2..cases {
         write(to, text, part(text, 2 * k), part(text, 2 * k + 1))?;
-        k += 1;
     }
     Ok(())
 }
