@@ -16,7 +16,7 @@ use Rattle.wire.specs.Sizes.{full_chain}
 use Rattle.wire.proofs.Laying.{laid-after}
 use Rattle.rounds.specs.Rounds.{Within}
 use Rattle.rounds.specs.Table.{entry}
-use Rattle.rounds.proofs.Upto.{within, total, total_tight, total_const}
+use Rattle.rounds.proofs.Upto.{total, total_tight, total_const}
 use Rattle.graph.specs.Content.{Graph}
 use Rattle.anchors.specs.Anchors.{AnchorSet}
 use Rattle.chain.specs.Steps.{anchor_at}

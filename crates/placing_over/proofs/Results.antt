@@ -1,13 +1,12 @@
 -- From the scores of an engine and the chain laid to the engine's result. Assumes nothing.
 use Prim.Native.Nat.{ℕ, ◌-◌, ◌≤◌}
-use mathlib.Core.Path.{◌≡◌, refl, sym, ap, ◌∙◌, subst}
+use mathlib.Core.Path.{◌≡◌, sym, ap, ◌∙◌, subst}
 use native.Mathlib.Omega.{arith}
 use mathlib.Core.List.{List, ◌++◌}
 use lib.ListN.{length, take, drop, replicate, length-append, length-drop}
 use lib.Seq.{take-append_seam}
 use Rattle.wire.specs.Lent.{padded, laid}
 use Rattle.wire.specs.Sizes.{full_scores}
-use Rattle.rounds.specs.Rounds.{Within}
 use Rattle.rounds.proofs.Upto.{within}
 use Rattle.graph.specs.Content.{Graph}
 use Rattle.anchors.specs.Anchors.{Anchor, AnchorSet}

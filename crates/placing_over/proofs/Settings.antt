@@ -1,5 +1,5 @@
 -- From what lies in the buffers to the setting of an engine. Assumes nothing.
-use Prim.Native.Nat.{ℕ, ◌+◌, ◌-◌, ◌*◌, ◌≤◌, ◌<◌}
+use Prim.Native.Nat.{ℕ, ◌-◌, ◌≤◌, ◌<◌}
 use mathlib.Core.Path.{◌≡◌, sym, ap, ◌∙◌}
 use mathlib.Core.List.{List}
 use native.Mathlib.Omega.{arith}
@@ -10,7 +10,6 @@ use Rattle.wire.specs.Lent.{front}
 use Rattle.rounds.specs.Rounds.{Within}
 use Rattle.rounds.proofs.Upto.{within}
 use Rattle.graph.specs.Content.{Graph, path_count}
-use Rattle.graph.specs.Good.{GoodGraph}
 use Rattle.anchors.specs.Anchors.{Anchor, AnchorSet, y, d}
 use Rattle.cover.specs.CoverDistance.{path_at}
 use Rattle.cover.specs.TableEntries.{Tables, IsTables}
@@ -21,7 +20,7 @@ use Rattle.chain.specs.Steps.{anchor_at}
 use Rattle.steps.specs.Setting.{Holds, path_from, setting_of}
 use Rattle.steps.specs.Filling.{each_of, NumbersFit}
 use Rattle.steps.proofs.EndsHeld.{numbers_fit, ends_held}
-use Rattle.placing_over.specs.Lying.{AnchorsLie, TablesLie, Over}
+use Rattle.placing_over.specs.Lying.{TablesLie, Over}
 
 module _ {g : Graph} {a : AnchorSet} {n k count : ℕ} {lengths paths reach distance closed numbers : List ℕ}
     (O : Over g a n k count lengths paths reach distance closed numbers) where

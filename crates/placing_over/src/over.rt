@@ -48,8 +48,8 @@ pub fn lay_chain(
     requires scored { Scored (setting_of n k count lengths.now paths.now reach.now distance.now closed.now numbers.now us.now ys.now ds.now) (take count scores.old) }
     requires count_le_most_anchors { (count ≤ most_anchors) × (length row.old ≡ n) × (full_scores ≤ length scores.old) × (full_chain ≤ length chain.old) }
     ensures { Ended (setting_of n k count lengths.now paths.now reach.now distance.now closed.now numbers.now us.now ys.now ds.now) rounds
-        (record { scores = scores.entry.now; chain = chain.old })
-        (record { scores = scores.exit.now; chain = chain.new }) result }
+        (record { scores = scores.old; chain = chain.old })
+        (record { scores = scores.new; chain = chain.new }) result }
 {
     let mut back = anchor_zeros();
     let found = list_chain(

@@ -36,8 +36,8 @@ pub fn plain_chain(
     requires places_fit { PlacesFit count r numbers.now × (r ≤ most_read) }
     requires count_le_most_anchors { (count ≤ most_anchors) × (length row.old ≡ n) × (full_scores ≤ length scores.old) × (full_chain ≤ length chain.old) }
     ensures { (g : Graph) → (a : AnchorSet) → Holds (setting_of n k count lengths.now paths.now reach.now distance.now closed.now numbers.now us.now ys.now ds.now) g a
-        → Laid IsPlain g a.anchors (record { scores = scores.entry.now; chain = chain.old })
-        (record { scores = scores.exit.now; chain = chain.new }) result }
+        → Laid IsPlain g a.anchors (record { scores = scores.old; chain = chain.old })
+        (record { scores = scores.new; chain = chain.new }) result }
 {
     plain_scores(
         n,

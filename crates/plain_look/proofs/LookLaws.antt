@@ -8,7 +8,7 @@ use native.Mathlib.Omega.{arith}
 use native.Mathlib.Decide.{dec_lt}
 use lib.ListN.{get_or}
 use Rattle.pair_step.specs.Pairs.{Greatest}
-use Rattle.pair_step.proofs.PairLaws.{greatest-none, greatest-more, raised_one}
+use Rattle.pair_step.proofs.PairLaws.{greatest-more, raised_one}
 use Rattle.read_order.specs.Order.{Among}
 
 -- none is one of the first 0

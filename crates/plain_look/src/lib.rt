@@ -29,7 +29,7 @@ pub fn look_back(
     requires row_fits { RowFits (length scores.now) (record { us = us.now; ys = ys.now; ds = ds.now }) row.now }
     requires looks_back { LooksBack taken order.now scores.now }
     requires x_le_most_read { (x ≤ most_read) × (c ≤ most_read) × (1 ≤ x) × (weight ≤ most_weight) }
-    ensures { Greatest weight weight (step_from (record { us = us.entry.now; ys = ys.now; ds = ds.now }) row.now v x c) (λ i. entry i scores.now) (Among order.now taken) result }
+    ensures { Greatest weight weight (step_from (record { us = us.now; ys = ys.now; ds = ds.now }) row.now v x c) (λ i. entry i scores.now) (Among order.now taken) result }
 {
     let mut best = weight;
     for q in 0..taken {

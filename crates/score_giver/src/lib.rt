@@ -26,7 +26,7 @@ pub fn giver(
     requires ends_fit { EndsFit n (record { us = us.now; ys = ys.now; ds = ds.now }) }
     requires row_fits { RowFits n (record { us = us.now; ys = ys.now; ds = ds.now }) row.now }
     requires n_in_bounds { (n ≤ length scores.now) × (x ≤ most_read) × (c ≤ most_read) × (1 ≤ x) }
-    ensures { Lowest (GivesIn (record { us = us.entry.now; ys = ys.now; ds = ds.now }) scores.now row.now score v x c weight) n result }
+    ensures { Lowest (GivesIn (record { us = us.now; ys = ys.now; ds = ds.now }) scores.now row.now score v x c weight) n result }
 {
     let mut i: usize = 0;
     while i < n {

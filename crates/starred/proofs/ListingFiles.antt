@@ -2,7 +2,7 @@
 -- Assumes nothing.
 use mathlib.Core.Path.{◌≡◌, refl}
 use Rattle.wire.specs.Found.{good}
-use Rattle.graph.specs.Reading.{Parsed, graph_of}
+use Rattle.graph.specs.Reading.{graph_of}
 use Rattle.graph.proofs.Starred.{G1-file, G1-accepted}
 use Rattle.anchors.proofs.AnchorStarred.{G1, set1}
 use Rattle.cover.specs.Worked.{g1}

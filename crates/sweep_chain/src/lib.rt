@@ -33,8 +33,8 @@ pub fn sweep_chain(
     requires prepared { Prepared (setting_of n k count lengths.now paths.now reach.now distance.now closed.now numbers.now us.now ys.now ds.now) }
     requires count_le_most_anchors { (count ≤ most_anchors) × (length row.old ≡ n) × (full_scores ≤ length scores.old) × (full_chain ≤ length chain.old) }
     ensures { (g : Graph) → (a : AnchorSet) → Holds (setting_of n k count lengths.now paths.now reach.now distance.now closed.now numbers.now us.now ys.now ds.now) g a
-        → Laid IsSweep g a.anchors (record { scores = scores.entry.now; chain = chain.old })
-        (record { scores = scores.exit.now; chain = chain.new }) result }
+        → Laid IsSweep g a.anchors (record { scores = scores.old; chain = chain.old })
+        (record { scores = scores.new; chain = chain.new }) result }
 {
     let rounds = sweep_scores(
         &mut scores[..count],

@@ -7,7 +7,7 @@ use mathlib.Core.Bool.{Bool, true}
 use mathlib.Core.List.{List}
 use native.Mathlib.Nat.{le_refl}
 use native.Mathlib.Omega.{arith}
-use lib.ListN.{length, get_or, set}
+use lib.ListN.{get_or, set}
 use Rattle.wire.specs.Sizes.{most_read, most_weight}
 use Rattle.rounds.specs.Rule.{value}
 use Rattle.rounds.specs.Place.{entry_place}

@@ -32,7 +32,7 @@ fn best_of(
     requires row_fits { RowFits n (record { us = us.now; ys = ys.now; ds = ds.now }) row.now }
     requires scores_fit { ScoresFit n scores.now }
     requires x_le_most_read { (x ≤ most_read) × (c ≤ most_read) × (1 ≤ x) × (weight ≤ most_weight) }
-    ensures { result ≡ best_in (record { us = us.entry.now; ys = ys.now; ds = ds.now }) scores.now row.now own v x c weight n }
+    ensures { result ≡ best_in (record { us = us.now; ys = ys.now; ds = ds.now }) scores.now row.now own v x c weight n }
 {
     let mut best = own;
     let mut i: usize = 0;

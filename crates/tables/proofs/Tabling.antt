@@ -1,21 +1,20 @@
 -- From tables in the used places to the entry's promise; and that the promise admits one answer. Assumes nothing.
 use Prim.Native.Nat.{ℕ, ◌≤◌}
-use mathlib.Core.Path.{◌≡◌, refl, sym, ap, ◌∙◌, subst}
+use mathlib.Core.Path.{◌≡◌, refl, sym, ap, ◌∙◌}
 use mathlib.Core.List.{List, ◌++◌}
 use mathlib.Core.Bool.{true, false}
-use native.Mathlib.Omega.{arith}
 use lib.ListN.{length, take, drop}
 use Rattle.wire.specs.Lent.{laid}
 use Rattle.wire.specs.Found.{Reply, accepted, refused, good}
 use Rattle.wire.specs.Sizes.{full_table, full_closed}
-use Rattle.wire.specs.Refusals.{small_buffer, graph_file}
+use Rattle.wire.specs.Refusals.{small_buffer}
 use Rattle.wire.proofs.Laying.{laid-after}
 use Rattle.graph.specs.Content.{Graph, vertex_count, path_count}
 use Rattle.graph.specs.Reading.{Parsed, graph_of}
 use Rattle.cover.specs.TableEntries.{Tables, IsTables, TableBuffers, roomy_tables, tables_reply, filled_tables}
 use Rattle.cover.proofs.One.{tables-one}
 use Rattle.tables.specs.declared.TablesAnswer.{TablesAnswer}
-use Rattle.tables.specs.Answer.{refusal_of, acceptance_of, Tabled, Untabled, Outcome, Answered}
+use Rattle.tables.specs.Answer.{refusal_of, acceptance_of, Tabled, Outcome, Answered}
 
 -- a part at the front, and 0 in the rest up to the full size
 pub laid_part : (full n : ℕ) (part old : List ℕ) → length part ≡ n → n ≤ full → laid full (take n (part ++ drop n old)) (part ++ drop n old) ≡ laid full part old

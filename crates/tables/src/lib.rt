@@ -74,8 +74,8 @@ fn lay_tables(
     requires content { Content n m lengths.now edges.now paths.now counts.now }
     requires full_table_in_bounds { (full_table ≤ length reach.old) × (full_table ≤ length distance.old) × (full_closed ≤ length closed.old) }
     ensures { (g : Graph) → Holds g n m lengths.now edges.now paths.now counts.now → k ≡ path_count g
-        → Tabled g (record { reach = reach.entry.now; distance = distance.old; closed = closed.old })
-        (record { reach = reach.exit.now; distance = distance.new; closed = closed.new }) result }
+        → Tabled g (record { reach = reach.old; distance = distance.old; closed = closed.old })
+        (record { reach = reach.new; distance = distance.new; closed = closed.new }) result }
 {
     let rows = n as usize;
     let cells = ROW * rows;
@@ -112,8 +112,8 @@ pub fn tables(
     closed: &mut [u32],
 ) -> TablesAnswer
     ensures { Answered file.now
-        (record { reach = reach.entry.now; distance = distance.old; closed = closed.old })
-        (record { reach = reach.exit.now; distance = distance.new; closed = closed.new })
+        (record { reach = reach.old; distance = distance.old; closed = closed.old })
+        (record { reach = reach.new; distance = distance.new; closed = closed.new })
         result }
 {
     if !roomy(reach.len(), distance.len(), closed.len()) {
