@@ -1,14 +1,11 @@
-use Prim.Native.Nat.{ℕ, ◌+◌, ◌-◌, ◌*◌, ◌≤◌, ◌<◌}
-use mathlib.Core.Path.{◌≡◌, refl, sym, ap, ◌∙◌, subst}
+use mathlib.Core.Path.{sym, ◌∙◌}
 use native.Mathlib.Omega.{arith}
-use lib.ListN.{length, get_or, take, drop}
 use Rattle.plain_placing.proofs.Places.{places_fit, short-read}
 use native.Mathlib.Nat.{le_of_eq}
-use Rattle.chain.specs.ChainEntries.{ChainBuffers, IsPlain}
+use Rattle.chain.specs.ChainEntries.{IsPlain}
 use Rattle.tables_make.proofs.Rooms.{room-long}
 use Rattle.placing.specs.Begun.{Taken}
 use Rattle.placing.proofs.Answering.{refused-answered, accepted-answered}
-use borrow.Author.Rules.{rules}
 use Rattle.plain_placing.proofs.plain.Goals as goal
 
 pub begin-a-requires : goal.begin-a-requires

@@ -1,7 +1,7 @@
-use Prim.Native.Nat.{ℕ, ◌+◌, ◌-◌, ◌*◌, ◌≤◌, ◌<◌}
-use mathlib.Core.Path.{◌≡◌, refl, sym, ap, ◌∙◌, subst}
+use Prim.Native.Nat.{◌*◌, ◌≤◌}
+use mathlib.Core.Path.{◌≡◌, sym, ◌∙◌}
 use native.Mathlib.Omega.{arith}
-use lib.ListN.{length, get_or, take, drop}
+use lib.ListN.{length, take}
 use native.Mathlib.Nat.{le_of_eq}
 use lib.Seq.{length-take-le}
 use Rattle.wire.specs.Found.{good}
@@ -10,7 +10,6 @@ use Rattle.graph.specs.Reading.{Parsed, graph_of}
 use Rattle.anchors.specs.Anchors.{AnchorSet}
 use Rattle.tables_make.proofs.Rooms.{room-long}
 use Rattle.placing_over.specs.Lying.{AnchorsLie, Over}
-use borrow.Author.Rules.{rules}
 use Rattle.plain_placing.proofs.plain_read.Goals as goal
 
 pub make_ready-g-requires : goal.make_ready-g-requires
@@ -80,4 +79,4 @@ returns c =
     graph_of c.args.graph.now ≡ good p → AnchorsLie p.graph a c.args.count c.args.numbers.now
     → Over p.graph a n c.make_ready-g.result.paths c.args.count m.lengths m.paths (take (table_row * n) m.reach) (take (table_row * n) m.distance) (take n m.closed) c.args.numbers.now =
         λ p a e A. record { tables = c.make_ready-g.ensures p e; anchors = A } in
-    λ p a e A. c.plain_over_lem.ensures p.graph a (lying p a e A)
+    λ p a e A. c.plain_over.ensures p.graph a (lying p a e A)
