@@ -1,4 +1,5 @@
-// The parts of a record, read from a reader. A number has four bytes, lowest first. Past the input's end everything reads as 0.
+// The parts of a record, read from a reader. A number has four bytes, lowest first. Past the input's end everything reads as 0. An error of the reader
+// is passed on; a space that was lent then holds what was read before it.
 ghost use Rattle.std.specs.Prelude.{◌≡◌, ◌+◌, ◌*◌, ◌<◌, ◌≤◌, slice_index, IfOk};
 ghost use Rattle.caseinput.specs.Counts.{IsPrefixLen};
 

@@ -201,7 +201,7 @@ fn plain_agrees(
     scores: &[u32],
     chain: &[u32],
 ) -> bool
-    ensures { result ≡ true → Audited graph.now file.now swept (record { scores = scores.entry.now; chain = chain.now }) }
+    ensures { result ≡ true → Audited graph.now file.now swept (record { scores = scores.now; chain = chain.now }) }
 {
     let mut own_scores = anchor_zeros();
     let mut own_chain = anchor_zeros();
