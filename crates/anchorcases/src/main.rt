@@ -6,57 +6,72 @@
 
 use anchors_check::{CheckedBoth, check_anchors};
 use anchors_view::view::{anchor_letters, view};
+use std::io;
+use std::io::Write;
 use texts::{part, parts, say_filled};
 
 // Writes what the check says of two files.
-fn show(graph: &[u8], file: &[u8]) {
+fn show(to: &mut impl Write, graph: &[u8], file: &[u8]) -> io::Result<()> {
     let found = check_anchors(graph, file);
     match found {
         CheckedBoth::Accepted(_, a) => {
             say_filled(
+                to,
                 b"accepted r # read # N # anchors #\n",
                 &[a.r as u64, a.read as u64, a.n as u64, a.anchors as u64],
-            );
+            )?;
         }
         CheckedBoth::Refused(number, which, place) => {
             say_filled(
+                to,
                 b"refused # file # place #\n",
                 &[number as u64, which as u64, place as u64],
-            );
+            )?;
         }
     }
+    Ok(())
 }
 
 // Writes the heading of a text, and what the check says of the graph file after it with each of the anchor files after that.
-fn show_all(text: &[u8]) {
-    say_filled(part(text, 0), &[]);
+fn show_all(to: &mut impl Write, text: &[u8]) -> io::Result<()> {
+    say_filled(to, part(text, 0), &[])?;
     for k in 2..parts(text) {
-        show(part(text, 1), part(text, k));
+        show(to, part(text, 1), part(text, k))?;
     }
+    Ok(())
 }
 
 // The same where each anchor file stands after a graph file of its own.
-fn show_pairs(text: &[u8]) {
-    say_filled(part(text, 0), &[]);
+fn show_pairs(to: &mut impl Write, text: &[u8]) -> io::Result<()> {
+    say_filled(to, part(text, 0), &[])?;
     for k in 0..parts(text) / 2 {
-        show(part(text, 2 * k + 1), part(text, 2 * k + 2));
+        show(to, part(text, 2 * k + 1), part(text, 2 * k + 2))?;
     }
+    Ok(())
 }
 
 // Writes where an anchor's letters stand, and the letters.
-fn look<'a>(graph: &'a [u8], file: &'a [u8], number: u32, which: u32) {
+fn look<'a>(
+    to: &mut impl Write,
+    graph: &'a [u8],
+    file: &'a [u8],
+    number: u32,
+    which: u32,
+) -> io::Result<()> {
     let w = view(graph, file, number, which);
     say_filled(
+        to,
         b"file # start # length # letters [",
         &[w.file as u64, w.start as u64, w.len as u64],
-    );
-    io::write_all(1, anchor_letters(graph, file, number, which));
-    io::write_all(1, b"]\n");
+    )?;
+    to.write_all(anchor_letters(graph, file, number, which))?;
+    to.write_all(b"]\n")
 }
 
 // In order: the listing's files; its first and third anchors; the same with weights 1; CCGCC; ACC; AAA, no edge; AAA, an edge to itself.
-fn worked() {
+fn worked(to: &mut impl Write) -> io::Result<()> {
     show_pairs(
+        to,
         b"document 01\n|\
           \x01\x04\x02\x41\x43\x01\x47\x02\x54\x54\x02\x43\x41\x04\x01\x02\x01\x03\x02\x04\x03\x04\x02\x03\x01\x02\x04\x03\x01\x03\x04|\
           \x02\x06\x41\x43\x54\x54\x43\x41\x03\x01\x01\x01\x02\x02\x03\x01\x03\x02\x02\x04\x01\x05\x02\x02|\
@@ -72,13 +87,14 @@ fn worked() {
           \x02\x03\x41\x41\x41\x03\x01\x01\x01\x01\x01\x01\x01\x02\x01\x01\x01\x01\x03\x01\x01|\
           \x01\x01\x01\x41\x01\x01\x01\x01\x01\x01|\
           \x02\x03\x41\x41\x41\x03\x01\x01\x01\x01\x01\x01\x01\x02\x01\x01\x01\x01\x03\x01\x01|",
-    );
+    )
 }
 
 // In order: both files empty; an empty anchor file; an empty graph file; a graph file of kind 2; an anchor file of kind 1; a graph file of kind 0;
 // a fault in both; a path step that is not an edge; a vertex on no path; bytes left over in the graph file.
-fn files() {
+fn files(to: &mut impl Write) -> io::Result<()> {
     show_pairs(
+        to,
         b"both files\n|\
           |\
           |\
@@ -100,14 +116,15 @@ fn files() {
           \x02\x06\x41\x43\x54\x54\x43\x41\x03\x01\x01\x01\x02\x02\x03\x01\x03\x02\x02\x04\x01\x05\x02\x02|\
           \x01\x01\x01\x41\x00\x01\x01\x01\x00|\
           \x02\x06\x41\x43\x54\x54\x43\x41\x03\x01\x01\x01\x02\x02\x03\x01\x03\x02\x02\x04\x01\x05\x02\x02|",
-    );
+    )
 }
 
 // In order: a last byte 0 of several, as the kind; a fifth byte 16, as the kind; kind 4,294,967,295; no r; the bytes end within r;
 // a fifth byte 128, as r; the bytes end within an anchor; the bytes end within a length; the bytes end after vertex 0;
 // vertex 0, and a weight that is not in fewest bytes; x 0, and a weight that is too great.
-fn numbers() {
+fn numbers(to: &mut impl Write) -> io::Result<()> {
     show_all(
+        to,
         b"numbers\n|\
           \x01\x01\x04\x41\x43\x47\x54\x00\x01\x01\x01|\
           \x80\x00|\
@@ -121,13 +138,14 @@ fn numbers() {
           \x02\x04\x41\x43\x47\x54\x01\x00\x01\x01\x01|\
           \x02\x04\x41\x43\x47\x54\x01\x00\x01\x01\x01\x80\x00|\
           \x02\x04\x41\x43\x47\x54\x01\x01\x00\x01\x01\xff\xff\xff\xff\x10|",
-    );
+    )
 }
 
 // In order: r 0; r 32,769; r 32,768, and the bytes end; r 32,768, and a bad byte before the end; r 4,294,967,295; one letter less;
 // a lower-case letter.
-fn reads() {
+fn reads(to: &mut impl Write) -> io::Result<()> {
     show_all(
+        to,
         b"the read\n|\
           \x01\x01\x04\x41\x43\x47\x54\x00\x01\x01\x01|\
           \x02\x00|\
@@ -137,12 +155,13 @@ fn reads() {
           \x02\xff\xff\xff\xff\x0f|\
           \x02\x04\x41\x43\x47|\
           \x02\x04\x41\x43\x67\x54\x00|",
-    );
+    )
 }
 
 // In order: no N; no anchor; no anchor, and a byte left over; N 2,048, and the bytes end; N 2,049; N 4,294,967,295; an anchor, and a byte left over.
-fn counts() {
+fn counts(to: &mut impl Write) -> io::Result<()> {
     show_all(
+        to,
         b"the count of anchors\n|\
           \x01\x01\x04\x41\x43\x47\x54\x00\x01\x01\x01|\
           \x02\x04\x41\x43\x47\x54|\
@@ -152,14 +171,15 @@ fn counts() {
           \x02\x04\x41\x43\x47\x54\x81\x10|\
           \x02\x04\x41\x43\x47\x54\xff\xff\xff\xff\x0f|\
           \x02\x04\x41\x43\x47\x54\x01\x01\x01\x01\x04\x01\x00|",
-    );
+    )
 }
 
 // In order: the whole label and read; the last letter, with weight 65,535; vertex 0; vertex n + 1; vertex 4,294,967,295;
 // vertex 0, and nothing else is well; x 0; c 0; length 0; x 4,294,967,295; c 4,294,967,295; length 4,294,967,295; x + length passes 32 bits;
 // c + length passes 32 bits.
-fn anchors() {
+fn anchors(to: &mut impl Write) -> io::Result<()> {
     show_all(
+        to,
         b"one anchor\n|\
           \x01\x01\x04\x41\x43\x47\x54\x00\x01\x01\x01|\
           \x02\x04\x41\x43\x47\x54\x01\x01\x01\x01\x04\x01|\
@@ -176,14 +196,15 @@ fn anchors() {
           \x02\x04\x41\x43\x47\x54\x01\x01\x01\x01\xff\xff\xff\xff\x0f\x01|\
           \x02\x04\x41\x43\x47\x54\x01\x01\xff\xff\xff\xff\x0f\x01\x02\x01|\
           \x02\x04\x41\x43\x47\x54\x01\x01\x01\xff\xff\xff\xff\x0f\x02\x01|",
-    );
+    )
 }
 
 // In order: both sums pass 32 bits; one letter past the label; one letter past the read; after the label; after the read;
 // after the label, and weight 0; weight 0; weight 65,536; weight 4,294,967,295; letters differ, and weight 0; letters differ;
 // only the last letter differs.
-fn more_anchors() {
+fn more_anchors(to: &mut impl Write) -> io::Result<()> {
     show_all(
+        to,
         b"|\
           \x01\x01\x04\x41\x43\x47\x54\x00\x01\x01\x01|\
           \x02\x04\x41\x43\x47\x54\x01\x01\xff\xff\xff\xff\x0f\xff\xff\xff\xff\x0f\xff\xff\xff\xff\x0f\x01|\
@@ -198,12 +219,13 @@ fn more_anchors() {
           \x02\x04\x41\x43\x47\x54\x01\x01\x01\x02\x01\x00|\
           \x02\x04\x41\x43\x47\x54\x01\x01\x01\x02\x01\x01|\
           \x02\x04\x41\x43\x47\x47\x01\x01\x01\x01\x04\x01|",
-    );
+    )
 }
 
 // In order: the same anchor twice; the same with another weight; y rises; y falls; x rises, and y falls; x falls; c rises.
-fn order() {
+fn order(to: &mut impl Write) -> io::Result<()> {
     show_pairs(
+        to,
         b"order\n|\
           \x01\x01\x04\x41\x43\x47\x54\x00\x01\x01\x01|\
           \x02\x04\x41\x43\x47\x54\x02\x01\x01\x01\x02\x01\x01\x01\x01\x02\x01|\
@@ -219,13 +241,14 @@ fn order() {
           \x02\x04\x41\x43\x47\x54\x02\x01\x02\x02\x01\x01\x01\x01\x01\x03\x01|\
           \x01\x01\x01\x41\x00\x01\x01\x01|\
           \x02\x02\x41\x41\x02\x01\x01\x01\x01\x01\x01\x01\x02\x01\x01|",
-    );
+    )
 }
 
 // In order: c falls; v falls; then vertex 0; v falls, and outside the label; v falls, and weight 0; v falls, and letters differ;
 // the third is below the second.
-fn more_order() {
+fn more_order(to: &mut impl Write) -> io::Result<()> {
     show_pairs(
+        to,
         b"|\
           \x01\x01\x01\x41\x00\x01\x01\x01|\
           \x02\x02\x41\x41\x02\x01\x01\x02\x01\x01\x01\x01\x01\x01\x01|\
@@ -241,7 +264,7 @@ fn more_order() {
           \x02\x06\x41\x43\x54\x54\x43\x41\x02\x03\x01\x03\x02\x02\x01\x01\x03\x02\x02|\
           \x01\x04\x02\x41\x43\x01\x47\x02\x54\x54\x02\x43\x41\x04\x01\x02\x01\x03\x02\x04\x03\x04\x02\x03\x01\x02\x04\x03\x01\x03\x04|\
           \x02\x06\x41\x43\x54\x54\x43\x41\x03\x01\x01\x01\x02\x02\x04\x01\x05\x02\x02\x03\x01\x03\x02\x02|",
-    );
+    )
 }
 
 // 65,536 and 65,537 bytes 0.
@@ -254,82 +277,90 @@ fn over_room() -> [u8; 65537] {
 }
 
 // Anchor files of 65,536 and 65,537 bytes 0, and the same as graph files: those of 65,536 are not too long.
-fn long() {
-    show_all(b"long files\n|");
+fn long(to: &mut impl Write) -> io::Result<()> {
+    show_all(to, b"long files\n|")?;
     let one: &[u8] = b"\x01\x01\x04\x41\x43\x47\x54\x00\x01\x01\x01";
     let full = full_room();
-    show_both(one, &full);
+    show_both(to, one, &full)?;
     let over = over_room();
-    show_both(one, &over);
+    show_both(to, one, &over)
 }
 
 // Writes what the check says of a file after a graph file, and after itself.
-fn show_both(graph: &[u8], file: &[u8]) {
-    show(graph, file);
-    show(file, file);
+fn show_both(to: &mut impl Write, graph: &[u8], file: &[u8]) -> io::Result<()> {
+    show(to, graph, file)?;
+    show(to, file, file)
 }
 
 // Writes where the letters of an anchor stand, in two files that are parts of a text.
-fn look_in(text: &[u8], graph: usize, file: usize, number: u32, which: u32) {
-    look(part(text, graph), part(text, file), number, which);
+fn look_in(
+    to: &mut impl Write,
+    text: &[u8],
+    graph: usize,
+    file: usize,
+    number: u32,
+    which: u32,
+) -> io::Result<()> {
+    look(to, part(text, graph), part(text, file), number, which)
 }
 
 // The anchors of the listing, in both files.
-fn views(files: &[u8]) {
-    say_filled(b"views\n", &[]);
-    look_in(files, 0, 1, 1, 1); // AC
-    look_in(files, 0, 1, 1, 2);
-    look_in(files, 0, 1, 2, 1); // TT
-    look_in(files, 0, 1, 2, 2);
-    look_in(files, 0, 1, 3, 1); // CA
-    look_in(files, 0, 1, 3, 2);
+fn views(to: &mut impl Write, files: &[u8]) -> io::Result<()> {
+    say_filled(to, b"views\n", &[])?;
+    look_in(to, files, 0, 1, 1, 1)?; // AC
+    look_in(to, files, 0, 1, 1, 2)?;
+    look_in(to, files, 0, 1, 2, 1)?; // TT
+    look_in(to, files, 0, 1, 2, 2)?;
+    look_in(to, files, 0, 1, 3, 1)?; // CA
+    look_in(to, files, 0, 1, 3, 2)
 }
 
-fn more_views(files: &[u8]) {
-    look_in(files, 0, 1, 0, 1); // no anchor 0
-    look_in(files, 0, 1, 4, 2); // no anchor 4
-    look_in(files, 0, 1, 4294967295, 1); // no such anchor
-    look_in(files, 0, 1, 1, 0); // no file 0
-    look_in(files, 0, 1, 1, 3); // no file 3
-    look_in(files, 0, 1, 1, 4294967295); // no such file
-    look_in(files, 2, 3, 1, 1); // CGT, from the second letter of both
-    look_in(files, 2, 3, 1, 2);
+fn more_views(to: &mut impl Write, files: &[u8]) -> io::Result<()> {
+    look_in(to, files, 0, 1, 0, 1)?; // no anchor 0
+    look_in(to, files, 0, 1, 4, 2)?; // no anchor 4
+    look_in(to, files, 0, 1, 4294967295, 1)?; // no such anchor
+    look_in(to, files, 0, 1, 1, 0)?; // no file 0
+    look_in(to, files, 0, 1, 1, 3)?; // no file 3
+    look_in(to, files, 0, 1, 1, 4294967295)?; // no such file
+    look_in(to, files, 2, 3, 1, 1)?; // CGT, from the second letter of both
+    look_in(to, files, 2, 3, 1, 2)
 }
 
-fn refused_views(files: &[u8]) {
-    say_filled(b"views of refused files\n", &[]);
-    look_in(files, 5, 1, 1, 1);
-    look_in(files, 5, 1, 1, 2);
-    look_in(files, 0, 5, 1, 2);
-    look_in(files, 0, 0, 1, 1);
-    look_in(files, 1, 0, 1, 2);
-    look_in(files, 0, 4, 1, 1);
-    look_in(files, 0, 4, 0, 1);
+fn refused_views(to: &mut impl Write, files: &[u8]) -> io::Result<()> {
+    say_filled(to, b"views of refused files\n", &[])?;
+    look_in(to, files, 5, 1, 1, 1)?;
+    look_in(to, files, 5, 1, 1, 2)?;
+    look_in(to, files, 0, 5, 1, 2)?;
+    look_in(to, files, 0, 0, 1, 1)?;
+    look_in(to, files, 1, 0, 1, 2)?;
+    look_in(to, files, 0, 4, 1, 1)?;
+    look_in(to, files, 0, 4, 0, 1)
 }
 
 // The views of files: the listing's two (0 and 1); one vertex ACGT and an anchor at its second letter (2 and 3); no anchors (4); an empty file (5).
-fn look_all() {
+fn look_all(to: &mut impl Write) -> io::Result<()> {
     let files: &[u8] =
         b"\x01\x04\x02\x41\x43\x01\x47\x02\x54\x54\x02\x43\x41\x04\x01\x02\x01\x03\x02\x04\x03\x04\x02\x03\x01\x02\x04\x03\x01\x03\x04|\
           \x02\x06\x41\x43\x54\x54\x43\x41\x03\x01\x01\x01\x02\x02\x03\x01\x03\x02\x02\x04\x01\x05\x02\x02|\
           \x01\x01\x04\x41\x43\x47\x54\x00\x01\x01\x01|\
           \x02\x04\x41\x43\x47\x54\x01\x01\x02\x02\x03\x01|\
           \x02\x06\x41\x43\x54\x54\x43\x41\x00||";
-    views(files);
-    more_views(files);
-    refused_views(files);
+    views(to, files)?;
+    more_views(to, files)?;
+    refused_views(to, files)
 }
 
-fn main() {
-    worked();
-    files();
-    numbers();
-    reads();
-    counts();
-    anchors();
-    more_anchors();
-    order();
-    more_order();
-    long();
-    look_all();
+fn main(rt: HostRuntime) -> io::Result<()> {
+    let mut to = rt.stdout();
+    worked(&mut to)?;
+    files(&mut to)?;
+    numbers(&mut to)?;
+    reads(&mut to)?;
+    counts(&mut to)?;
+    anchors(&mut to)?;
+    more_anchors(&mut to)?;
+    order(&mut to)?;
+    more_order(&mut to)?;
+    long(&mut to)?;
+    look_all(&mut to)
 }

@@ -10,26 +10,30 @@ ghost use Rattle.std.specs.Prelude.{◌≤◌};
 use anchors_read::{AnchorsAnswer, read_anchors};
 use anchors_write::{WrittenAnchors, write_anchors};
 use changes::{change_letters, change_numbers, changed};
+use std::io;
+use std::io::Write;
 use telling::{
     BYTE_BEFORE, NUMBER_BEFORE, count_bytes, count_numbers, say, say_bytes, say_numbers,
 };
 use texts::{part, parts, say_filled};
 
 // Writes the first n bytes as letters.
-fn say_letters(bytes: &[u8], n: usize) {
+fn say_letters(to: &mut impl Write, bytes: &[u8], n: usize) -> io::Result<()> {
     if 0 < n {
         if n <= bytes.len() {
-            say(b" ");
-            say(&bytes[..n]);
+            say(to, b" ")?;
+            say(to, &bytes[..n])?;
         }
     }
+    Ok(())
 }
 
 // ---- the reader
 
 // Writes how many places of the reader's buffers hold 0, and how many are as they were.
-fn say_places(letters: &[u8], anchors: &[u32]) {
+fn say_places(to: &mut impl Write, letters: &[u8], anchors: &[u32]) -> io::Result<()> {
     say_filled(
+        to,
         b" zero # # before # #\n",
         &[
             count_bytes(letters, 0),
@@ -37,12 +41,13 @@ fn say_places(letters: &[u8], anchors: &[u32]) {
             count_bytes(letters, BYTE_BEFORE),
             count_numbers(anchors, NUMBER_BEFORE),
         ],
-    );
+    )
 }
 
 // Writes the reader's answer.
-fn say_answer(a: AnchorsAnswer) {
+fn say_answer(to: &mut impl Write, a: AnchorsAnswer) -> io::Result<()> {
     say_filled(
+        to,
         b": # # # # #",
         &[
             a.number as u64,
@@ -51,30 +56,37 @@ fn say_answer(a: AnchorsAnswer) {
             a.letters as u64,
             a.anchors as u64,
         ],
-    );
+    )
 }
 
 // Writes a reader's line.
-fn tell_read(name: &[u8], answer: AnchorsAnswer, letters: &[u8], anchors: &[u32]) {
-    say(b"read ");
-    say(name);
-    say_answer(answer);
-    say_letters(letters, answer.letters as usize);
-    say_numbers(anchors, 0, 5 * (answer.anchors as usize));
-    say_places(letters, anchors);
+fn tell_read(
+    to: &mut impl Write,
+    name: &[u8],
+    answer: AnchorsAnswer,
+    letters: &[u8],
+    anchors: &[u32],
+) -> io::Result<()> {
+    say(to, b"read ")?;
+    say(to, name)?;
+    say_answer(to, answer)?;
+    say_letters(to, letters, answer.letters as usize)?;
+    say_numbers(to, anchors, 0, 5 * (answer.anchors as usize))?;
+    say_places(to, letters, anchors)
 }
 
 // Reads into lent buffers.
 fn read_into(
+    to: &mut impl Write,
     text: &[u8],
     name: usize,
     graph: usize,
     file: usize,
     letters: &mut [u8],
     anchors: &mut [u32],
-) {
+) -> io::Result<()> {
     let answer = read_anchors(part(text, graph), part(text, file), letters, anchors);
-    tell_read(part(text, name), answer, letters, anchors);
+    tell_read(to, part(text, name), answer, letters, anchors)
 }
 
 // Buffers of full size.
@@ -87,34 +99,40 @@ fn anchor_room() -> [u32; 10240] {
 }
 
 // Reads into buffers of full size.
-fn read(text: &[u8], name: usize, graph: usize, file: usize) {
+fn read(
+    to: &mut impl Write,
+    text: &[u8],
+    name: usize,
+    graph: usize,
+    file: usize,
+) -> io::Result<()> {
     let mut letters = letter_room();
     let mut anchors = anchor_room();
-    read_into(text, name, graph, file, &mut letters, &mut anchors);
+    read_into(to, text, name, graph, file, &mut letters, &mut anchors)
 }
 
 // The reader's buffers: one place more than full size.
-fn read_larger(text: &[u8]) {
+fn read_larger(to: &mut impl Write, text: &[u8]) -> io::Result<()> {
     let mut letters = [BYTE_BEFORE; 32769];
     let mut anchors = [NUMBER_BEFORE; 10241];
-    read_into(text, 16, 0, 2, &mut letters, &mut anchors);
+    read_into(to, text, 16, 0, 2, &mut letters, &mut anchors)
 }
 
 // One place less for the letters, and one for the anchors.
-fn read_few_letters(text: &[u8], name: usize, graph: usize) {
+fn read_few_letters(to: &mut impl Write, text: &[u8], name: usize, graph: usize) -> io::Result<()> {
     let mut letters = [BYTE_BEFORE; 32767];
     let mut anchors = anchor_room();
-    read_into(text, name, graph, 2, &mut letters, &mut anchors);
+    read_into(to, text, name, graph, 2, &mut letters, &mut anchors)
 }
 
-fn read_few_anchors(text: &[u8]) {
+fn read_few_anchors(to: &mut impl Write, text: &[u8]) -> io::Result<()> {
     let mut letters = letter_room();
     let mut anchors = [NUMBER_BEFORE; 10239];
-    read_into(text, 18, 0, 2, &mut letters, &mut anchors);
+    read_into(to, text, 18, 0, 2, &mut letters, &mut anchors)
 }
 
 // The reader's cases. First the graph file, the same cut short and the anchor file; then names, and files after the names that have one.
-fn read_all() {
+fn read_all(to: &mut impl Write) -> io::Result<()> {
     let text: &[u8] =
         b"\x01\x04\x02\x41\x43\x01\x47\x02\x54\x54\x02\x43\x41\x04\x01\x02\x01\x03\x02\x04\x03\x04\x02\x03\x01\x02\x04\x03\x01\x03\x04|\
           \x01\x04\x02\x41\x43\x01\x47\x02\x54\x54\x02\x43\x41\x04\x01\x02\x01\x03\x02\x04\x03\x04\x02\x03\x01\x02\x04\x03\x01\x03|\
@@ -127,24 +145,25 @@ fn read_all() {
           c 4|\x02\x06\x41\x43\x54\x54\x43\x41\x03\x01\x01\x01\x02\x02\x03\x01\x04\x02\x02\x04\x01\x05\x02\x02|\
           a cut graph|\x01|\
           with larger buffers|with 32767 letters|with 10239 anchors|a cut graph with 32767 letters|";
-    read(text, 3, 0, 2);
-    read(text, 4, 0, 5);
-    read(text, 6, 0, 7);
-    read(text, 8, 0, 9);
-    read(text, 10, 0, 11);
-    read(text, 12, 0, 13);
-    read(text, 14, 1, 15);
-    read_larger(text);
-    read_few_letters(text, 17, 0);
-    read_few_anchors(text);
-    read_few_letters(text, 19, 1);
+    read(to, text, 3, 0, 2)?;
+    read(to, text, 4, 0, 5)?;
+    read(to, text, 6, 0, 7)?;
+    read(to, text, 8, 0, 9)?;
+    read(to, text, 10, 0, 11)?;
+    read(to, text, 12, 0, 13)?;
+    read(to, text, 14, 1, 15)?;
+    read_larger(to, text)?;
+    read_few_letters(to, text, 17, 0)?;
+    read_few_anchors(to, text)?;
+    read_few_letters(to, text, 19, 1)
 }
 
 // ---- the writer
 
 // Writes the writer's answer.
-fn say_written(a: WrittenAnchors) {
+fn say_written(to: &mut impl Write, a: WrittenAnchors) -> io::Result<()> {
     say_filled(
+        to,
         b": # # # #",
         &[
             a.number as u64,
@@ -152,32 +171,38 @@ fn say_written(a: WrittenAnchors) {
             a.place as u64,
             a.bytes as u64,
         ],
-    );
+    )
 }
 
 // Writes a writer's line.
-fn tell_write(name: &[u8], answer: WrittenAnchors, out: &[u8]) {
-    say(b"write ");
-    say(name);
-    say_written(answer);
-    say_bytes(out, answer.bytes as usize);
-    say_filled(b" before #\n", &[count_bytes(out, BYTE_BEFORE)]);
+fn tell_write(
+    to: &mut impl Write,
+    name: &[u8],
+    answer: WrittenAnchors,
+    out: &[u8],
+) -> io::Result<()> {
+    say(to, b"write ")?;
+    say(to, name)?;
+    say_written(to, answer)?;
+    say_bytes(to, out, answer.bytes as usize)?;
+    say_filled(to, b" before #\n", &[count_bytes(out, BYTE_BEFORE)])
 }
 
 // Calls the writer with a lent output.
 fn write_into(
+    to: &mut impl Write,
     text: &[u8],
     name: &[u8],
     changes: &[u8],
     letters: &[u8],
     anchors: &[u32],
     out: &mut [u8],
-) {
+) -> io::Result<()> {
     let r = changed(changes, b'r', 6);
     let n = changed(changes, b'N', 3);
     let graph = changed(changes, b'g', 0) as usize;
     let answer = write_anchors(r, n, letters, anchors, part(text, graph), out);
-    tell_write(name, answer, out);
+    tell_write(to, name, answer, out)
 }
 
 // A number of a case as a length, at most so much.
@@ -206,7 +231,7 @@ fn anchors_of(text: &[u8], changes: &[u8]) -> [u32; 10240] {
 }
 
 // Runs a case, into 24 bytes, which is what the listing's anchors take, or into as many as it says.
-fn write(text: &[u8], name: &[u8], changes: &[u8]) {
+fn write(to: &mut impl Write, text: &[u8], name: &[u8], changes: &[u8]) -> io::Result<()> {
     let letters = letters_of(text, changes);
     let anchors = anchors_of(text, changes);
     let few_letters = size_of(changes, b'F', 32768, 32768);
@@ -214,32 +239,34 @@ fn write(text: &[u8], name: &[u8], changes: &[u8]) {
     let mut out = [BYTE_BEFORE; 26];
     let room = size_of(changes, b'R', 26, 24);
     write_into(
+        to,
         text,
         name,
         changes,
         &letters[..few_letters],
         &anchors[..few_anchors],
         &mut out[..room],
-    );
+    )
 }
 
 // Runs every case of the writer, each of which has two parts of the text.
-fn write_all(text: &[u8]) {
+fn write_all(to: &mut impl Write, text: &[u8]) -> io::Result<()> {
     let cases = parts(text) / 2;
-    let mut k: usize = 2;
-    while k < cases {
-        write(text, part(text, 2 * k), part(text, 2 * k + 1));
-        k += 1;
+    for k in 2..cases {
+        write(to, text, part(text, 2 * k), part(text, 2 * k + 1))?;
     }
+    Ok(())
 }
 
 // The writer's text has the graph file, the same cut short, the anchor file and an empty part, and then each case's name and changes (crate changes).
 // The lists are r and N; g, which graph file; R, the output's room; F and f, how many letters and numbers of anchors are lent; the letters s and
 // the anchors a. From `from 10239 anchors, r 0` on each case has two faults, of rules that follow one another: the first in document 01's order
 // is the answer.
-fn main() {
-    read_all();
+fn main(rt: HostRuntime) -> io::Result<()> {
+    let mut to = rt.stdout();
+    read_all(&mut to)?;
     write_all(
+        &mut to,
         b"\x01\x04\x02\x41\x43\x01\x47\x02\x54\x54\x02\x43\x41\x04\x01\x02\x01\x03\x02\x04\x03\x04\x02\x03\x01\x02\x04\x03\x01\x03\x04|\
           \x01\x04\x02\x41\x43\x01\x47\x02\x54\x54\x02\x43\x41\x04\x01\x02\x01\x03\x02\x04\x03\x04\x02\x03\x01\x02\x04\x03\x01\x03|\
           \x02\x06\x41\x43\x54\x54\x43\x41\x03\x01\x01\x01\x02\x02\x03\x01\x03\x02\x02\x04\x01\x05\x02\x02||\
@@ -257,5 +284,5 @@ fn main() {
           length 0, v 0 of the second|a3=0;a5=0;|weight 0, v 0 of the second|a4=0;a5=0;|c 2, v 0 of the second|a2=2;a5=0;|\
           the second as the first, v 0 of the third|a5=1;a7=1;a10=0;|the third as the second, into 0 bytes|a10=3;a12=3;R=0;|\
           N 2049, into 0 bytes|N=2049;R=0;|a cut graph, into 0 bytes|g=1;R=0;|from 10239 anchors, into 0 bytes|f=10239;R=0;|",
-    );
+    )
 }

@@ -82,7 +82,7 @@ pub fn content_fault(
     letters: &[u8],
     anchors: &[u32],
 ) -> u32
-    requires labels_at_lem { LabelsAt graph.now labels vertices }
+    requires labels_at { LabelsAt graph.now labels vertices }
     requires full_letters_in_bounds { (full_letters ≤ length letters.now) × (full_anchors ≤ length anchors.now) }
     ensures { result ≡ refusal_number (anchors_given (content_of graph.now)
         (record { r = r; n = n; buffers = record { letters = letters.now; anchors = anchors.now } })) }

@@ -17,7 +17,7 @@ pub fn label_table() -> [u32; FULL_LENGTHS]
 
 // Writes for each of the n vertices where its label's letters start in the graph file, and how many they are, vertex v at place v - 1.
 pub fn label_places(graph: &[u8], at: usize, n: u32, starts: &mut [u32], lengths: &mut [u32])
-    requires labels_at_lem { LabelsAt graph.now at n }
+    requires labels_at { LabelsAt graph.now at n }
     requires n_in_bounds { (n ≤ length starts.old) × (n ≤ length lengths.old) }
     ensures { (starts.new ≡ front (starts_in graph.now) starts.old)
         × (lengths.new ≡ front (lengths_of (content_of graph.now)) lengths.old) }
@@ -40,7 +40,7 @@ pub fn label_places(graph: &[u8], at: usize, n: u32, starts: &mut [u32], lengths
 
 // Where the letters of vertex v's label start in the graph file.
 pub fn label_start(graph: &[u8], at: usize, n: u32, v: u32) -> u32
-    requires labels_at_lem { LabelsAt graph.now at n }
+    requires labels_at { LabelsAt graph.now at n }
     requires le_v { (1 ≤ v) × (v ≤ n) }
     ensures { result ≡ get_or (starts_in graph.now) (v - 1) 0 }
 {

@@ -1,1 +1,3 @@
+-- The definitions of counts and digests.
+pub mod Counts
 pub mod Digest

@@ -1,12 +1,30 @@
-// The parts of a record, read from standard input. A number has four bytes, lowest first. Past the input's end everything reads as 0.
-ghost use Rattle.std.specs.Prelude.{◌≡◌, ◌+◌, ◌*◌, ◌<◌, ◌≤◌, slice_index};
-ghost use Rattle.io.specs.Counts.{IsPrefixLen};
+// The parts of a record, read from a reader. A number has four bytes, lowest first. Past the input's end everything reads as 0.
+ghost use Rattle.std.specs.Prelude.{◌≡◌, ◌+◌, ◌*◌, ◌<◌, ◌≤◌, slice_index, IfOk};
+ghost use Rattle.caseinput.specs.Counts.{IsPrefixLen};
+
+use std::io;
+use std::io::Read;
+
+// Reads until the space is full or the input ends. The number of bytes read.
+pub fn read_full(from: &mut impl Read, space: &mut [u8]) -> io::Result<usize>
+    ensures { IfOk result (λ n. IsPrefixLen n space.new) }
+{
+    let mut n: usize = 0;
+    while n < space.len() {
+        let k = from.read(&mut space[n..])?;
+        if k == 0 {
+            return Ok(n);
+        }
+        n += k;
+    }
+    Ok(n)
+}
 
 // Reads a record's kind.
-pub fn read_kind() -> u8 {
+pub fn read_kind(from: &mut impl Read) -> io::Result<u8> {
     let mut one = [0u8; 1];
-    io::read_full(0, &mut one);
-    one[0]
+    read_full(from, &mut one)?;
+    Ok(one[0])
 }
 
 // A byte, as a number.
@@ -24,10 +42,10 @@ fn lowest_first(four: &[u8; 4]) -> u32
 }
 
 // Reads a number.
-pub fn read_number() -> u32 {
+pub fn read_number(from: &mut impl Read) -> io::Result<u32> {
     let mut four = [0u8; 4];
-    io::read_full(0, &mut four);
-    lowest_first(&four)
+    read_full(from, &mut four)?;
+    Ok(lowest_first(&four))
 }
 
 // The lesser of two lengths.
@@ -38,23 +56,22 @@ fn least(a: usize, b: usize) -> usize
 }
 
 // Reads bytes and keeps none.
-fn skip(n: usize) {
-    let mut left = n;
-    while 0 < left {
-        read_kind();
-        left -= 1;
+fn skip(from: &mut impl Read, n: usize) -> io::Result<()> {
+    for _ in 0..n {
+        read_kind(from)?;
     }
+    Ok(())
 }
 
 // Reads a file of a record into space, as far as it has room; a file that is longer than that is too long in any case. The number of bytes kept.
-pub fn read_file(space: &mut [u8]) -> usize
-    ensures { IsPrefixLen result space.new }
+pub fn read_file(from: &mut impl Read, space: &mut [u8]) -> io::Result<usize>
+    ensures { IfOk result (λ n. IsPrefixLen n space.new) }
 {
-    let n = read_number() as usize;
+    let n = read_number(from)? as usize;
     let kept = least(n, space.len());
-    io::read_full(0, &mut space[..kept]);
-    skip(n - kept);
-    kept
+    read_full(from, &mut space[..kept])?;
+    skip(from, n - kept)?;
+    Ok(kept)
 }
 
 // Sets a place, where it is there.
@@ -71,49 +88,43 @@ fn set_number(numbers: &mut [u32], at: usize, x: u32) {
 }
 
 // Reads a run of letters: its first place, how many, the letters.
-fn read_letter_run(space: &mut [u8]) {
-    let at = read_number();
-    let n = read_number();
-    let mut i: u32 = 0;
-    while i < n {
-        set_letter(space, (at as usize) + (i as usize), read_kind());
-        i += 1;
+fn read_letter_run(from: &mut impl Read, space: &mut [u8]) -> io::Result<()> {
+    let at = read_number(from)?;
+    let n = read_number(from)?;
+    for i in 0..n {
+        set_letter(space, (at as usize) + (i as usize), read_kind(from)?);
     }
+    Ok(())
 }
 
 // The same of numbers.
-fn read_number_run(space: &mut [u32]) {
-    let at = read_number();
-    let n = read_number();
-    let mut i: u32 = 0;
-    while i < n {
-        set_number(space, (at as usize) + (i as usize), read_number());
-        i += 1;
+fn read_number_run(from: &mut impl Read, space: &mut [u32]) -> io::Result<()> {
+    let at = read_number(from)?;
+    let n = read_number(from)?;
+    for i in 0..n {
+        set_number(space, (at as usize) + (i as usize), read_number(from)?);
     }
+    Ok(())
 }
 
 // Reads a buffer of letters into space that holds zeros: its size, how many runs of other places, the runs. The buffer's size, as far as there is room.
-pub fn read_letters(space: &mut [u8]) -> usize
-    ensures { IsPrefixLen result space.new }
+pub fn read_letters(from: &mut impl Read, space: &mut [u8]) -> io::Result<usize>
+    ensures { IfOk result (λ n. IsPrefixLen n space.new) }
 {
-    let size = read_number();
-    let mut left = read_number();
-    while 0 < left {
-        read_letter_run(space);
-        left -= 1;
+    let size = read_number(from)?;
+    for _ in 0..read_number(from)? {
+        read_letter_run(from, space)?;
     }
-    least(size as usize, space.len())
+    Ok(least(size as usize, space.len()))
 }
 
 // The same of numbers.
-pub fn read_numbers(space: &mut [u32]) -> usize
-    ensures { IsPrefixLen result space.new }
+pub fn read_numbers(from: &mut impl Read, space: &mut [u32]) -> io::Result<usize>
+    ensures { IfOk result (λ n. IsPrefixLen n space.new) }
 {
-    let size = read_number();
-    let mut left = read_number();
-    while 0 < left {
-        read_number_run(space);
-        left -= 1;
+    let size = read_number(from)?;
+    for _ in 0..read_number(from)? {
+        read_number_run(from, space)?;
     }
-    least(size as usize, space.len())
+    Ok(least(size as usize, space.len()))
 }

@@ -1,4 +1,4 @@
-// What the programs over stored cases share: the parts of a record, read from standard input, and digests.
+// What the programs over stored cases share: the parts of a record, read from a reader, and digests.
 #![tactic(auto)]
 
 pub mod digest; // digest.rt: 64-bit FNV-1a digests of bytes and of numbers

@@ -3,7 +3,8 @@
 #![tactic(auto)]
 
 use listing_files::print_listing;
+use std::io;
 
-fn main() {
-    print_listing(b"graph.bin", b"anchors.bin");
+fn main(rt: HostRuntime) -> io::Result<()> {
+    print_listing(&rt, &mut rt.stdout(), b"graph.bin", b"anchors.bin")
 }

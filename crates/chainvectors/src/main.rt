@@ -8,6 +8,8 @@
 use anchors_read::read_anchors;
 use placing::ChainAnswer;
 use plain_placing::plain;
+use std::io;
+use std::io::Write;
 use sweep_placing::sweep;
 use telling::{BYTE_BEFORE, NUMBER_BEFORE, count_numbers, say, say_numbers};
 use texts::{part, say_filled};
@@ -27,8 +29,9 @@ fn by_way(
 }
 
 // Writes how many places of the two buffers hold 0, and how many are as they were.
-fn say_places(scores: &[u32], chain: &[u32]) {
+fn say_places(to: &mut impl Write, scores: &[u32], chain: &[u32]) -> io::Result<()> {
     say_filled(
+        to,
         b" zero # # before # #\n",
         &[
             count_numbers(scores, 0),
@@ -36,7 +39,7 @@ fn say_places(scores: &[u32], chain: &[u32]) {
             count_numbers(scores, NUMBER_BEFORE),
             count_numbers(chain, NUMBER_BEFORE),
         ],
-    );
+    )
 }
 
 // ---- chains: the lines of an accepted pair of files are the listing's, and a line more: the scores of all anchors, and the places of the buffers
@@ -55,8 +58,17 @@ fn last_of(first: u32, length: u32) -> u64 {
 }
 
 // Writes an anchor's line of the listing: number v x y c d and the score.
-fn say_anchor(number: u32, v: u32, x: u32, c: u32, length: u32, score: u32) {
+fn say_anchor(
+    to: &mut impl Write,
+    number: u32,
+    v: u32,
+    x: u32,
+    c: u32,
+    length: u32,
+    score: u32,
+) -> io::Result<()> {
     say_filled(
+        to,
         b"# # # # # # #\n",
         &[
             number as u64,
@@ -67,48 +79,69 @@ fn say_anchor(number: u32, v: u32, x: u32, c: u32, length: u32, score: u32) {
             last_of(c, length),
             score as u64,
         ],
-    );
+    )
 }
 
 // The same from the anchors' numbers and the scores.
-fn list_anchor(anchors: &[u32], scores: &[u32], number: u32) {
+fn list_anchor(
+    to: &mut impl Write,
+    anchors: &[u32],
+    scores: &[u32],
+    number: u32,
+) -> io::Result<()> {
     if 0 < number {
         let one = (number - 1) as usize;
         let v = at_place(anchors, 5 * one);
         let x = at_place(anchors, 5 * one + 1);
         let c = at_place(anchors, 5 * one + 2);
         let length = at_place(anchors, 5 * one + 3);
-        say_anchor(number, v, x, c, length, at_place(scores, one));
+        say_anchor(to, number, v, x, c, length, at_place(scores, one))?;
     }
+    Ok(())
 }
 
 // Writes the line of the anchor at a place of the chain.
-fn list_at(anchors: &[u32], scores: &[u32], chain: &[u32], at: u32) {
-    list_anchor(anchors, scores, at_place(chain, at as usize));
+fn list_at(
+    to: &mut impl Write,
+    anchors: &[u32],
+    scores: &[u32],
+    chain: &[u32],
+    at: u32,
+) -> io::Result<()> {
+    list_anchor(to, anchors, scores, at_place(chain, at as usize))
 }
 
 // Writes the lines of the chain's anchors.
-fn list_chain(anchors: &[u32], scores: &[u32], chain: &[u32], length: u32) {
+fn list_chain(
+    to: &mut impl Write,
+    anchors: &[u32],
+    scores: &[u32],
+    chain: &[u32],
+    length: u32,
+) -> io::Result<()> {
     for at in 0..length {
-        list_at(anchors, scores, chain, at);
+        list_at(to, anchors, scores, chain, at)?;
     }
+    Ok(())
 }
 
 // Writes the listing's first line.
-fn say_first(answer: ChainAnswer) {
+fn say_first(to: &mut impl Write, answer: ChainAnswer) -> io::Result<()> {
     say_filled(
+        to,
         b"anchors # score # rounds #\n",
         &[
             answer.anchors as u64,
             answer.score as u64,
             answer.rounds as u64,
         ],
-    );
+    )
 }
 
 // Writes what else the answer holds.
-fn say_rest(answer: ChainAnswer) {
+fn say_rest(to: &mut impl Write, answer: ChainAnswer) -> io::Result<()> {
     say_filled(
+        to,
         b"number # file # place # length # scores",
         &[
             answer.number as u64,
@@ -116,20 +149,27 @@ fn say_rest(answer: ChainAnswer) {
             answer.place as u64,
             answer.length as u64,
         ],
-    );
+    )
 }
 
 // Writes the lines of an accepted case.
-fn tell(answer: ChainAnswer, anchors: &[u32], scores: &[u32], chain: &[u32]) {
-    say_first(answer);
-    list_chain(anchors, scores, chain, answer.length);
-    say_rest(answer);
-    say_numbers(scores, 0, answer.anchors as usize);
-    say_places(scores, chain);
+fn tell(
+    to: &mut impl Write,
+    answer: ChainAnswer,
+    anchors: &[u32],
+    scores: &[u32],
+    chain: &[u32],
+) -> io::Result<()> {
+    say_first(to, answer)?;
+    list_chain(to, anchors, scores, chain, answer.length)?;
+    say_rest(to, answer)?;
+    say_numbers(to, scores, 0, answer.anchors as usize)?;
+    say_places(to, scores, chain)
 }
 
 // A way into lent buffers.
 fn chain_into(
+    to: &mut impl Write,
     text: &[u8],
     way: usize,
     graph: usize,
@@ -137,38 +177,66 @@ fn chain_into(
     anchors: &[u32],
     scores: &mut [u32],
     chain: &mut [u32],
-) {
-    say(part(text, way));
+) -> io::Result<()> {
+    say(to, part(text, way))?;
     let answer = by_way(way, part(text, graph), part(text, file), scores, chain);
-    tell(answer, anchors, scores, chain);
+    tell(to, answer, anchors, scores, chain)
 }
 
 // A way into buffers of full size.
-fn full_way(text: &[u8], way: usize, graph: usize, file: usize, anchors: &[u32]) {
+fn full_way(
+    to: &mut impl Write,
+    text: &[u8],
+    way: usize,
+    graph: usize,
+    file: usize,
+    anchors: &[u32],
+) -> io::Result<()> {
     let mut scores = [NUMBER_BEFORE; 2048];
     let mut chain = [NUMBER_BEFORE; 2048];
-    chain_into(text, way, graph, file, anchors, &mut scores, &mut chain);
+    chain_into(to, text, way, graph, file, anchors, &mut scores, &mut chain)
 }
 
 // A way into buffers with a place more.
-fn larger_way(text: &[u8], way: usize, graph: usize, file: usize, anchors: &[u32]) {
+fn larger_way(
+    to: &mut impl Write,
+    text: &[u8],
+    way: usize,
+    graph: usize,
+    file: usize,
+    anchors: &[u32],
+) -> io::Result<()> {
     let mut scores = [NUMBER_BEFORE; 2049];
     let mut chain = [NUMBER_BEFORE; 2049];
-    chain_into(text, way, graph, file, anchors, &mut scores, &mut chain);
+    chain_into(to, text, way, graph, file, anchors, &mut scores, &mut chain)
 }
 
 // Both ways, into buffers of full size or larger.
-fn both_ways(text: &[u8], graph: usize, file: usize, anchors: &[u32], larger: bool) {
+fn both_ways(
+    to: &mut impl Write,
+    text: &[u8],
+    graph: usize,
+    file: usize,
+    anchors: &[u32],
+    larger: bool,
+) -> io::Result<()> {
     if larger {
-        larger_way(text, 0, graph, file, anchors);
-        return larger_way(text, 1, graph, file, anchors);
+        larger_way(to, text, 0, graph, file, anchors)?;
+        return larger_way(to, text, 1, graph, file, anchors);
     }
-    full_way(text, 0, graph, file, anchors);
-    full_way(text, 1, graph, file, anchors);
+    full_way(to, text, 0, graph, file, anchors)?;
+    full_way(to, text, 1, graph, file, anchors)
 }
 
 // A case: its anchors, then its chains.
-fn chain_case(text: &[u8], name: usize, graph: usize, file: usize, larger: bool) {
+fn chain_case(
+    to: &mut impl Write,
+    text: &[u8],
+    name: usize,
+    graph: usize,
+    file: usize,
+    larger: bool,
+) -> io::Result<()> {
     let mut letters = [BYTE_BEFORE; 32768];
     let mut anchors = [NUMBER_BEFORE; 10240];
     read_anchors(
@@ -177,29 +245,30 @@ fn chain_case(text: &[u8], name: usize, graph: usize, file: usize, larger: bool)
         &mut letters,
         &mut anchors,
     );
-    say(part(text, name));
-    both_ways(text, graph, file, &anchors, larger);
+    say(to, part(text, name))?;
+    both_ways(to, text, graph, file, &anchors, larger)
 }
 
 // The chains of a text's cases.
-fn chain_cases(text: &[u8]) {
-    chain_case(text, 6, 2, 7, false);
-    chain_case(text, 8, 2, 9, false);
-    chain_case(text, 10, 2, 11, false);
-    chain_case(text, 12, 2, 13, false);
-    chain_case(text, 14, 2, 7, true);
-    chain_case(text, 15, 3, 16, false);
-    chain_case(text, 17, 3, 18, false);
-    chain_case(text, 19, 4, 20, false);
-    chain_case(text, 21, 5, 20, false);
+fn chain_cases(to: &mut impl Write, text: &[u8]) -> io::Result<()> {
+    chain_case(to, text, 6, 2, 7, false)?;
+    chain_case(to, text, 8, 2, 9, false)?;
+    chain_case(to, text, 10, 2, 11, false)?;
+    chain_case(to, text, 12, 2, 13, false)?;
+    chain_case(to, text, 14, 2, 7, true)?;
+    chain_case(to, text, 15, 3, 16, false)?;
+    chain_case(to, text, 17, 3, 18, false)?;
+    chain_case(to, text, 19, 4, 20, false)?;
+    chain_case(to, text, 21, 5, 20, false)
 }
 
 // Graph files 2 to 5: G1; G2, with labels A, CC, G, edges 1-2, 2-3, 3-2 and one path 1 2 3; one vertex A; the same with an edge to itself. Then names,
 // each with its anchor file, where it has one of its own. G1's read is ACTTCA, with three anchors, the first and the third, the same with weights 1, and
 // none. G2's anchors are 2 1 1 2 2; 2 1 4 2 2; 3 1 3 1 1 on CCGCC, and 1 1 1 1 1; 2 1 2 2 2 on ACC. A's are 1 1 1 1 1; 1 1 2 1 1; 1 1 3 1 1 on AAA.
-fn chains() {
-    say(b"chains\n");
+fn chains(to: &mut impl Write) -> io::Result<()> {
+    say(to, b"chains\n")?;
     chain_cases(
+        to,
         b"sweep\n|plain\n|\
           \x01\x04\x02\x41\x43\x01\x47\x02\x54\x54\x02\x43\x41\x04\x01\x02\x01\x03\x02\x04\x03\x04\x02\x03\x01\x02\x04\x03\x01\x03\x04|\
           \x01\x03\x01\x41\x02\x43\x43\x01\x47\x03\x01\x02\x02\x03\x03\x02\x01\x03\x01\x02\x03|\
@@ -221,14 +290,20 @@ fn chains() {
           one vertex A, AAA\n|\
           \x02\x03\x41\x41\x41\x03\x01\x01\x01\x01\x01\x01\x01\x02\x01\x01\x01\x01\x03\x01\x01|\
           one vertex A with an edge to itself, AAA\n|",
-    );
+    )
 }
 
 // ---- refused calls: buffers below full size, and files with a fault. The buffers are left alone
 
 // Writes the line of a refused call.
-fn tell_refusal(answer: ChainAnswer, scores: &[u32], chain: &[u32]) {
+fn tell_refusal(
+    to: &mut impl Write,
+    answer: ChainAnswer,
+    scores: &[u32],
+    chain: &[u32],
+) -> io::Result<()> {
     say_filled(
+        to,
         b" number # file # place # anchors # score # rounds # length #",
         &[
             answer.number as u64,
@@ -239,12 +314,13 @@ fn tell_refusal(answer: ChainAnswer, scores: &[u32], chain: &[u32]) {
             answer.rounds as u64,
             answer.length as u64,
         ],
-    );
-    say_places(scores, chain);
+    )?;
+    say_places(to, scores, chain)
 }
 
 // A refused call of a way into lent buffers.
 fn refused_way(
+    to: &mut impl Write,
     text: &[u8],
     way: usize,
     name: usize,
@@ -252,71 +328,79 @@ fn refused_way(
     file: usize,
     scores: &mut [u32],
     chain: &mut [u32],
-) {
-    say(part(text, name));
-    say(part(text, way));
+) -> io::Result<()> {
+    say(to, part(text, name))?;
+    say(to, part(text, way))?;
     let answer = by_way(way, part(text, graph), part(text, file), scores, chain);
-    tell_refusal(answer, scores, chain);
+    tell_refusal(to, answer, scores, chain)
 }
 
 // The one and then the other, into the same lent buffers.
 fn refused_into(
+    to: &mut impl Write,
     text: &[u8],
     name: usize,
     graph: usize,
     file: usize,
     scores: &mut [u32],
     chain: &mut [u32],
-) {
-    refused_way(text, 0, name, graph, file, scores, chain);
-    refused_way(text, 1, name, graph, file, scores, chain);
+) -> io::Result<()> {
+    refused_way(to, text, 0, name, graph, file, scores, chain)?;
+    refused_way(to, text, 1, name, graph, file, scores, chain)
 }
 
 // The same in buffers of full size.
-fn refused_case(text: &[u8], name: usize, graph: usize, file: usize) {
+fn refused_case(
+    to: &mut impl Write,
+    text: &[u8],
+    name: usize,
+    graph: usize,
+    file: usize,
+) -> io::Result<()> {
     let mut scores = [NUMBER_BEFORE; 2048];
     let mut chain = [NUMBER_BEFORE; 2048];
-    refused_into(text, name, graph, file, &mut scores, &mut chain);
+    refused_into(to, text, name, graph, file, &mut scores, &mut chain)
 }
 
 // Buffers of size 0.
-fn no_room(text: &[u8]) {
+fn no_room(to: &mut impl Write, text: &[u8]) -> io::Result<()> {
     let mut none = [NUMBER_BEFORE; 0];
     let mut full = [NUMBER_BEFORE; 2048];
-    refused_into(text, 5, 2, 3, &mut none, &mut full);
-    refused_into(text, 6, 2, 3, &mut full, &mut none);
+    refused_into(to, text, 5, 2, 3, &mut none, &mut full)?;
+    refused_into(to, text, 6, 2, 3, &mut full, &mut none)
 }
 
 // Buffers one short of full size; with a graph file at fault the small buffer is still the answer.
-fn short_room(text: &[u8]) {
+fn short_room(to: &mut impl Write, text: &[u8]) -> io::Result<()> {
     let mut short = [NUMBER_BEFORE; 2047];
     let mut full = [NUMBER_BEFORE; 2048];
-    refused_into(text, 7, 2, 3, &mut short, &mut full);
-    refused_into(text, 8, 2, 3, &mut full, &mut short);
-    refused_into(text, 9, 4, 3, &mut short, &mut full);
+    refused_into(to, text, 7, 2, 3, &mut short, &mut full)?;
+    refused_into(to, text, 8, 2, 3, &mut full, &mut short)?;
+    refused_into(to, text, 9, 4, 3, &mut short, &mut full)
 }
 
 // Files with a fault.
-fn faults(text: &[u8]) {
-    refused_case(text, 10, 4, 3);
-    refused_case(text, 11, 12, 3);
-    refused_case(text, 13, 14, 3);
-    refused_case(text, 15, 2, 4);
-    refused_case(text, 16, 2, 17);
-    refused_case(text, 18, 19, 20);
+fn faults(to: &mut impl Write, text: &[u8]) -> io::Result<()> {
+    refused_case(to, text, 10, 4, 3)?;
+    refused_case(to, text, 11, 12, 3)?;
+    refused_case(to, text, 13, 14, 3)?;
+    refused_case(to, text, 15, 2, 4)?;
+    refused_case(to, text, 16, 2, 17)?;
+    refused_case(to, text, 18, 19, 20)
 }
 
 // The refused calls of a text's cases.
-fn refused_cases(text: &[u8]) {
-    no_room(text);
-    short_room(text);
-    faults(text);
+fn refused_cases(to: &mut impl Write, text: &[u8]) -> io::Result<()> {
+    no_room(to, text)?;
+    short_room(to, text)?;
+    faults(to, text)
 }
 
 // The listing's files are parts 2 and 3, and the empty file part 4. Then names, each with its files, where it has any of its own.
-fn refused() {
-    say(b"refused\n");
+fn refused(to: &mut impl Write) -> io::Result<()> {
+    say(to, b"refused\n")?;
     refused_cases(
+        to,
         b": sweep|: plain|\
           \x01\x04\x02\x41\x43\x01\x47\x02\x54\x54\x02\x43\x41\x04\x01\x02\x01\x03\x02\x04\x03\x04\x02\x03\x01\x02\x04\x03\x01\x03\x04|\
           \x02\x06\x41\x43\x54\x54\x43\x41\x03\x01\x01\x01\x02\x02\x03\x01\x03\x02\x02\x04\x01\x05\x02\x02|\
@@ -330,10 +414,11 @@ fn refused() {
           the third anchor's weight 0|\
           \x02\x06\x41\x43\x54\x54\x43\x41\x03\x01\x01\x01\x02\x02\x03\x01\x03\x02\x02\x04\x01\x05\x02\x00|\
           a fault in both files|\x01\x01\x01\x41\x00\x00|\x80\x00|",
-    );
+    )
 }
 
-fn main() {
-    chains();
-    refused();
+fn main(rt: HostRuntime) -> io::Result<()> {
+    let mut to = rt.stdout();
+    chains(&mut to)?;
+    refused(&mut to)
 }

@@ -79,11 +79,9 @@ pub fn change_numbers(text: &[u8], list: u8, numbers: &mut [u32]) {
         at: 0,
         value: 0,
     };
-    let mut i: usize = 0;
-    while i < text.len() {
-        s = taken(s, text[i]);
-        change_number(list, numbers, s, text[i]);
-        i += 1;
+    for b in text {
+        s = taken(s, *b);
+        change_number(list, numbers, s, *b);
     }
 }
 
@@ -94,11 +92,9 @@ pub fn change_letters(text: &[u8], list: u8, letters: &mut [u8]) {
         at: 0,
         value: 0,
     };
-    let mut i: usize = 0;
-    while i < text.len() {
-        s = taken(s, text[i]);
-        change_letter(list, letters, s, text[i]);
-        i += 1;
+    for b in text {
+        s = taken(s, *b);
+        change_letter(list, letters, s, *b);
     }
 }
 

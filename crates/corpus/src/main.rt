@@ -35,6 +35,8 @@ use compare::{Verdict, same_numbers, same_verdict};
 use graph_read::{GraphAnswer, read_graph};
 use placing::ChainAnswer;
 use plain_placing::plain;
+use std::io;
+use std::io::{BufReader, BufWriter, Read, Write};
 use sweep_placing::sweep;
 use tables::TablesAnswer;
 use tables_make::make::{cell_zeros, letter_zeros, number_zeros, path_zeros, vertex_zeros};
@@ -54,31 +56,31 @@ struct Placed {
     agree: bool,
 }
 
-// Writes text to standard output.
-fn say(text: &[u8]) {
-    io::write_all(1, text);
+// Writes text.
+fn say(to: &mut impl Write, text: &[u8]) -> io::Result<()> {
+    to.write_all(text)
 }
 
-// Writes a number to standard output.
-fn say_number(x: u64) {
-    io::print_decimal(1, x);
+// Writes a number.
+fn say_number(to: &mut impl Write, x: u64) -> io::Result<()> {
+    write!(to, "{x}")
 }
 
 // Writes a number and a space.
-fn say_next(x: u32) {
-    say_number(x as u64);
-    say(b" ");
+fn say_next(to: &mut impl Write, x: u32) -> io::Result<()> {
+    say_number(to, x as u64)?;
+    say(to, b" ")
 }
 
 // Writes the line of a refusal.
-fn say_refusal(v: Verdict) {
-    say(b"refused ");
-    say_next(v.number);
-    say(b"file ");
-    say_next(v.file);
-    say(b"place ");
-    say_number(v.place as u64);
-    say(b"\n");
+fn say_refusal(to: &mut impl Write, v: Verdict) -> io::Result<()> {
+    say(to, b"refused ")?;
+    say_next(to, v.number)?;
+    say(to, b"file ")?;
+    say_next(to, v.file)?;
+    say(to, b"place ")?;
+    say_number(to, v.place as u64)?;
+    say(to, b"\n")
 }
 
 // Number, file and place of each entry's answer.
@@ -250,70 +252,72 @@ fn sweep_agrees(a: AnchorsAnswer, p: ChainAnswer) -> bool {
 }
 
 // Writes the first seven numbers of a line.
-fn say_graph(g: GraphAnswer, t: TablesAnswer, digest: u64) {
-    say_next(g.vertices);
-    say_next(g.letters);
-    say_next(g.edges);
-    say_next(g.paths);
-    say_next(t.reachrounds);
-    say_next(t.distancerounds);
-    say_number(digest);
+fn say_graph(to: &mut impl Write, g: GraphAnswer, t: TablesAnswer, digest: u64) -> io::Result<()> {
+    say_next(to, g.vertices)?;
+    say_next(to, g.letters)?;
+    say_next(to, g.edges)?;
+    say_next(to, g.paths)?;
+    say_next(to, t.reachrounds)?;
+    say_next(to, t.distancerounds)?;
+    say_number(to, digest)
 }
 
 // Writes the other six numbers.
-fn say_chain(a: AnchorsAnswer, p: ChainAnswer, digest: u64) {
-    say(b" ");
-    say_next(a.letters);
-    say_next(p.anchors);
-    say_next(p.score);
-    say_next(p.rounds);
-    say_next(p.length);
-    say_number(digest);
+fn say_chain(to: &mut impl Write, a: AnchorsAnswer, p: ChainAnswer, digest: u64) -> io::Result<()> {
+    say(to, b" ")?;
+    say_next(to, a.letters)?;
+    say_next(to, p.anchors)?;
+    say_next(to, p.score)?;
+    say_next(to, p.rounds)?;
+    say_next(to, p.length)?;
+    say_number(to, digest)
 }
 
 // Answers a graph file, without the line's end, where the line may go on: true for an accepted one.
-fn answer_graph(graph: &[u8]) -> bool {
+fn answer_graph(to: &mut impl Write, graph: &[u8]) -> io::Result<bool> {
     let g = graph_of(graph);
     let t = tables_of(graph);
     if !tables_agree(g, t.answer) {
-        say(b"the tables' answer differs\n");
-        return false;
+        say(to, b"the tables' answer differs\n")?;
+        return Ok(false);
     }
     if g.number != 0 {
-        say_refusal(graph_verdict(g));
-        return false;
+        say_refusal(to, graph_verdict(g))?;
+        return Ok(false);
     }
-    say_graph(g, t.answer, t.digest);
-    true
+    say_graph(to, g, t.answer, t.digest)?;
+    Ok(true)
 }
 
 // Answers both files.
-fn answer_both(graph: &[u8], file: &[u8]) {
+fn answer_both(to: &mut impl Write, graph: &[u8], file: &[u8]) -> io::Result<()> {
     let a = anchors_of(graph, file);
     let p = place_twice(graph, file);
     if !p.agree {
-        return say(b"the plain pass differs\n");
+        return say(to, b"the plain pass differs\n");
     }
     if !sweep_agrees(a, p.answer) {
-        return say(b"the sweep's answer differs\n");
+        return say(to, b"the sweep's answer differs\n");
     }
     if a.number != 0 {
-        return say_refusal(anchors_verdict(a));
+        return say_refusal(to, anchors_verdict(a));
     }
-    if answer_graph(graph) {
-        say_chain(a, p.answer, p.digest);
-        say(b"\n");
+    if answer_graph(to, graph)? {
+        say_chain(to, a, p.answer, p.digest)?;
+        say(to, b"\n")?;
     }
+    Ok(())
 }
 
 // Answers one case.
-fn answer(kind: u8, graph: &[u8], file: &[u8]) {
+fn answer(to: &mut impl Write, kind: u8, graph: &[u8], file: &[u8]) -> io::Result<()> {
     if kind == 1 {
-        return answer_both(graph, file);
+        return answer_both(to, graph, file);
     }
-    if answer_graph(graph) {
-        say(b"\n");
+    if answer_graph(to, graph)? {
+        say(to, b"\n")?;
     }
+    Ok(())
 }
 
 // A room for a file, one byte longer than any that is not too long.
@@ -322,31 +326,37 @@ fn file_room() -> [u8; 65537] {
 }
 
 // Reads the anchor file of a record, and answers it.
-fn answer_after(kind: u8, graph: &[u8]) {
+fn answer_after(
+    from: &mut impl Read,
+    to: &mut impl Write,
+    kind: u8,
+    graph: &[u8],
+) -> io::Result<()> {
     let mut file = file_room();
-    let n = read_file(&mut file);
-    answer(kind, graph, &file[..n]);
+    let n = read_file(from, &mut file)?;
+    answer(to, kind, graph, &file[..n])
 }
 
 // Reads one record and answers it; false at the end.
-fn answer_next() -> bool {
-    let kind = read_kind();
+fn answer_next(from: &mut impl Read, to: &mut impl Write) -> io::Result<bool> {
+    let kind = read_kind(from)?;
     if kind == 0 {
-        return false;
+        return Ok(false);
     }
     let mut graph = file_room();
-    let n = read_file(&mut graph);
-    answer_after(kind, &graph[..n]);
-    true
+    let n = read_file(from, &mut graph)?;
+    answer_after(from, to, kind, &graph[..n])?;
+    Ok(true)
 }
 
 // Answers record after record: at most 1,000,000, so that it ends on any input.
-fn main() {
-    let mut left: u32 = 1000000;
-    while 0 < left {
-        if !answer_next() {
-            return;
+fn main(rt: HostRuntime) -> io::Result<()> {
+    let mut from = BufReader::new(rt.alloc(), rt.stdin())?;
+    let mut to = BufWriter::new(rt.alloc(), rt.stdout())?;
+    for _ in 0..1000000 {
+        if !answer_next(&mut from, &mut to)? {
+            break;
         }
-        left -= 1;
     }
+    to.flush()
 }

@@ -1,10 +1,10 @@
 -- The last byte of a line, and a space before a number, written by a store.
 -- Assumes nothing.
-use Prim.Native.Nat.{ℕ, ◌+◌, ◌-◌, ◌≤◌, ◌<◌}
+use Prim.Native.Nat.{ℕ, ◌+◌, ◌-◌, ◌<◌}
 use mathlib.Core.Path.{◌≡◌, refl, sym, ap, ◌∙◌}
 use mathlib.Core.List.{List, [], ◌∷◌, ◌++◌, append-nil}
 use native.Mathlib.Omega.{arith}
-use lib.ListN.{length, drop, set, length-append, length-set}
+use lib.ListN.{length, drop, set}
 use borrow.Rule.Slice.PartMut.{mid_of, put_mid}
 use Rattle.wire.specs.Lent.{front}
 use Rattle.wire.proofs.Putting.{put_one}

@@ -6,39 +6,41 @@ ghost use Rattle.std.specs.Prelude.{◌<◌};
 
 use candidates::candidate;
 use pair_step::step::{graph_gap, read_gap};
+use std::io;
+use std::io::Write;
 use telling::{say, say_number};
 
 // Writes a signed number, of which the magnitude is below 1,000: the number that it is, or whose negative it is.
-fn say_signed(x: i64) {
-    let mut size: u32 = 0;
-    while size < 1000 {
+fn say_signed(to: &mut impl Write, x: i64) -> io::Result<()> {
+    for size in 0..1000 {
         if x == candidate(0, size, 0) {
-            return say_number(b" candidate ", size as u64);
+            return say_number(to, b" candidate ", size as u64);
         }
         if x == candidate(0, 0, size) {
-            return say_number(b" candidate -", size as u64);
+            return say_number(to, b" candidate -", size as u64);
         }
-        size += 1;
     }
+    Ok(())
 }
 
 // Writes the gaps, and the candidate where the first anchor's score and the third's weight are this weight.
-fn say_step(weight: u32, read: u32, graph: u32)
+fn say_step(to: &mut impl Write, weight: u32, read: u32, graph: u32) -> io::Result<()>
     requires { (read < 1000) × (graph < 1000) }
 {
-    say_number(b"weights ", weight as u64);
-    say_number(b" read gap ", read as u64);
-    say_number(b" graph gap ", graph as u64);
-    say_signed(candidate(weight, weight, read + graph));
-    say(b"\n");
+    say_number(to, b"weights ", weight as u64)?;
+    say_number(to, b" read gap ", read as u64)?;
+    say_number(to, b" graph gap ", graph as u64)?;
+    say_signed(to, candidate(weight, weight, read + graph))?;
+    say(to, b"\n")
 }
 
 // The first anchor ends at letter 2 of vertex 1 and at 2 on the read; the third starts at letter 1 of vertex 4 and at 5 on the read. The cover
 // distance from vertex 1 to vertex 4 is 3, by hand: both paths reach vertex 4 at position 3, at distance 0, and before it path 1 has
 // L(1) + L(2) = 3 and path 2 has L(1) + L(3) = 4.
-fn main() {
+fn main(rt: HostRuntime) -> io::Result<()> {
+    let mut to = rt.stdout();
     let read = read_gap(2, 5);
     let graph = graph_gap(3, 1, 2);
-    say_step(2, read, graph);
-    say_step(1, read, graph);
+    say_step(&mut to, 2, read, graph)?;
+    say_step(&mut to, 1, read, graph)
 }

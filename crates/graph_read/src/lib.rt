@@ -64,8 +64,8 @@ pub fn read_graph(
     counts: &mut [u32],
 ) -> GraphAnswer
     ensures { Answered file.now
-        (record { letters = letters.entry.now; lengths = lengths.old; edges = edges.old; paths = paths.old; counts = counts.old })
-        (record { letters = letters.exit.now; lengths = lengths.new; edges = edges.new; paths = paths.new; counts = counts.new })
+        (record { letters = letters.old; lengths = lengths.old; edges = edges.old; paths = paths.old; counts = counts.old })
+        (record { letters = letters.new; lengths = lengths.new; edges = edges.new; paths = paths.new; counts = counts.new })
         result }
 {
     if !roomy(

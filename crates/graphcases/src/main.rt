@@ -4,14 +4,17 @@
 #![tactic(auto)]
 
 use graph_check::{Checked, check_graph};
+use std::io;
+use std::io::Write;
 use texts::{part, parts, say_filled};
 
 // Writes what the check says of a file.
-fn show(file: &[u8]) {
+fn show(to: &mut impl Write, file: &[u8]) -> io::Result<()> {
     let found = check_graph(file);
     match found {
         Checked::Accepted(s) => {
             say_filled(
+                to,
                 b"accepted n # letters # labels # m # edges # K # paths #\n",
                 &[
                     s.n as u64,
@@ -22,25 +25,28 @@ fn show(file: &[u8]) {
                     s.k as u64,
                     s.paths as u64,
                 ],
-            );
+            )?;
         }
         Checked::Fault(number, place) => {
-            say_filled(b"refused # place #\n", &[number as u64, place as u64]);
+            say_filled(to, b"refused # place #\n", &[number as u64, place as u64])?;
         }
     }
+    Ok(())
 }
 
 // Writes the heading of a text, and what the check says of each of its files.
-fn show_all(text: &[u8]) {
-    say_filled(part(text, 0), &[]);
+fn show_all(to: &mut impl Write, text: &[u8]) -> io::Result<()> {
+    say_filled(to, part(text, 0), &[])?;
     for k in 1..parts(text) {
-        show(part(text, k));
+        show(to, part(text, k))?;
     }
+    Ok(())
 }
 
 // In order: the empty file; one vertex, one path; one byte less; one byte more; no path; vertex 2 is on no path; G1; G2; an edge to itself.
-fn worked() {
+fn worked(to: &mut impl Write) -> io::Result<()> {
     show_all(
+        to,
         b"document 01\n|\
           |\
           \x01\x01\x01\x41\x00\x01\x01\x01|\
@@ -51,13 +57,14 @@ fn worked() {
           \x01\x04\x02\x41\x43\x01\x47\x02\x54\x54\x02\x43\x41\x04\x01\x02\x01\x03\x02\x04\x03\x04\x02\x03\x01\x02\x04\x03\x01\x03\x04|\
           \x01\x03\x01\x41\x02\x43\x43\x01\x47\x03\x01\x02\x02\x03\x03\x02\x01\x03\x01\x02\x03|\
           \x01\x01\x01\x41\x01\x01\x01\x01\x01\x01|",
-    );
+    )
 }
 
 // In order: a last byte 0 of several; a fifth byte 16; a fifth byte 16, as n; a fifth byte 128; the bytes end within n; four bytes that go on;
 // an anchor file; kind 0; kind 4,294,967,295.
-fn numbers() {
+fn numbers(to: &mut impl Write) -> io::Result<()> {
     show_all(
+        to,
         b"numbers and kind\n|\
           \x80\x00|\
           \xff\xff\xff\xff\x10|\
@@ -68,13 +75,14 @@ fn numbers() {
           \x02|\
           \x00|\
           \xff\xff\xff\xff\x0f|",
-    );
+    )
 }
 
 // In order: n 0; n 1,025; n 1,024; n 4,294,967,295; m 4,097; m 4,096; m 4,294,967,295; K 17; K 16; K 4,294,967,295; a path of 0 vertices;
 // a path of n + 1 vertices; a path of 4,294,967,295 vertices.
-fn counts() {
+fn counts(to: &mut impl Write) -> io::Result<()> {
     show_all(
+        to,
         b"counts\n|\
           \x01\x00|\
           \x01\x81\x08|\
@@ -89,14 +97,15 @@ fn counts() {
           \x01\x01\x01\x41\x00\x01\x00|\
           \x01\x01\x01\x41\x00\x01\x02|\
           \x01\x01\x01\x41\x00\x01\xff\xff\xff\xff\x0f|",
-    );
+    )
 }
 
 // In order: no label; length 0; length 32,769; length 32,768, and the bytes end; length 32,768, and a bad byte before the end; length 4,294,967,295;
 // 1 and 32,768 letters together; 1 and 4,294,967,295 letters together; 1 and 32,767 letters together; a lower-case letter;
 // the second letter is none.
-fn labels() {
+fn labels(to: &mut impl Write) -> io::Result<()> {
     show_all(
+        to,
         b"labels\n|\
           \x01\x01|\
           \x01\x01\x00|\
@@ -109,14 +118,15 @@ fn labels() {
           \x01\x02\x01\x41\xff\xff\x01|\
           \x01\x01\x01\x61|\
           \x01\x01\x02\x41\x42|",
-    );
+    )
 }
 
 // In order: no m; an edge from vertex 0; an edge to vertex 0; an edge to vertex n + 1; an edge from vertex 4,294,967,295;
 // the bytes end after a bad first vertex; a bad second number after a bad first vertex; the same edge twice; edges 2-1, 1-2;
 // an edge from vertex 0 after 1-1.
-fn edges() {
+fn edges(to: &mut impl Write) -> io::Result<()> {
     show_all(
+        to,
         b"edges\n|\
           \x01\x01\x01\x41|\
           \x01\x01\x01\x41\x01\x00\x01|\
@@ -128,13 +138,14 @@ fn edges() {
           \x01\x01\x01\x41\x02\x01\x01\x01\x01|\
           \x01\x02\x01\x41\x01\x43\x02\x02\x01\x01\x02|\
           \x01\x01\x01\x41\x02\x01\x01\x00\x01|",
-    );
+    )
 }
 
 // In order: no K; vertex 0; vertex n + 1; vertex 0 after 1; 2 1 over edges 1-2, 2-1; 1 1 over an edge 1-1; 1 2 over no edge; 1 2 over an edge 2-1;
 // G1 with a second path 1 2 3; a vertex on no path, and a byte left over; two equal paths.
-fn paths() {
+fn paths(to: &mut impl Write) -> io::Result<()> {
     show_all(
+        to,
         b"paths\n|\
           \x01\x01\x01\x41\x00|\
           \x01\x01\x01\x41\x00\x01\x01\x00|\
@@ -147,7 +158,7 @@ fn paths() {
           \x01\x04\x02\x41\x43\x01\x47\x02\x54\x54\x02\x43\x41\x04\x01\x02\x01\x03\x02\x04\x03\x04\x02\x03\x01\x02\x04\x03\x01\x02\x03|\
           \x01\x02\x01\x41\x01\x43\x00\x01\x01\x01\x00|\
           \x01\x01\x01\x41\x00\x02\x01\x01\x01\x01|",
-    );
+    )
 }
 
 // 65,536 and 65,537 bytes 0.
@@ -160,20 +171,21 @@ fn over_room() -> [u8; 65537] {
 }
 
 // Files of 65,536 and 65,537 bytes 0: the first is not too long.
-fn long() {
-    show_all(b"long files\n|");
+fn long(to: &mut impl Write) -> io::Result<()> {
+    show_all(to, b"long files\n|")?;
     let full = full_room();
-    show(&full);
+    show(to, &full)?;
     let over = over_room();
-    show(&over);
+    show(to, &over)
 }
 
-fn main() {
-    worked();
-    numbers();
-    counts();
-    labels();
-    edges();
-    paths();
-    long();
+fn main(rt: HostRuntime) -> io::Result<()> {
+    let mut to = rt.stdout();
+    worked(&mut to)?;
+    numbers(&mut to)?;
+    counts(&mut to)?;
+    labels(&mut to)?;
+    edges(&mut to)?;
+    paths(&mut to)?;
+    long(&mut to)
 }

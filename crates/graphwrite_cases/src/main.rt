@@ -11,6 +11,8 @@ ghost use Rattle.std.specs.Prelude.{◌≤◌, ◌<◌};
 
 use changes::{change_letters, change_numbers, changed};
 use graph_write::{WrittenAnswer, write_graph};
+use std::io;
+use std::io::Write;
 use telling::{BYTE_BEFORE, count_bytes, say, say_bytes};
 use texts::{part, parts, say_filled};
 
@@ -20,8 +22,9 @@ fn untouched(bytes: &[u8]) -> bool {
 }
 
 // Writes the answer.
-fn say_answer(a: WrittenAnswer) {
+fn say_answer(to: &mut impl Write, a: WrittenAnswer) -> io::Result<()> {
     say_filled(
+        to,
         b": # # # #",
         &[
             a.number as u64,
@@ -29,25 +32,25 @@ fn say_answer(a: WrittenAnswer) {
             a.place as u64,
             a.bytes as u64,
         ],
-    );
+    )
 }
 
 // Writes what stands in the output, of which so many bytes were written.
-fn say_output(out: &[u8], bytes: u32) {
+fn say_output(to: &mut impl Write, out: &[u8], bytes: u32) -> io::Result<()> {
     if untouched(out) {
-        say(b" untouched");
+        say(to, b" untouched")?;
     }
     if bytes <= 64 {
-        say_bytes(out, bytes as usize);
+        say_bytes(to, out, bytes as usize)?;
     }
-    say(b"\n");
+    say(to, b"\n")
 }
 
 // Writes a case's line: the answer, and what stands in the output.
-fn tell(name: &[u8], answer: WrittenAnswer, out: &[u8]) {
-    say(name);
-    say_answer(answer);
-    say_output(out, answer.bytes);
+fn tell(to: &mut impl Write, name: &[u8], answer: WrittenAnswer, out: &[u8]) -> io::Result<()> {
+    say(to, name)?;
+    say_answer(to, answer)?;
+    say_output(to, out, answer.bytes)
 }
 
 // Sets a place, where it is there.
@@ -72,10 +75,8 @@ fn length_of(v: u32, longer: u32) -> u32 {
 fn set_lengths(lengths: &mut [u32], vertices: u32, longer: u32)
     requires { vertices ≤ 1024 }
 {
-    let mut v: u32 = 0;
-    while v < vertices {
+    for v in 0..vertices {
         set_number(lengths, v as usize, length_of(v, longer));
-        v += 1;
     }
 }
 
@@ -83,12 +84,10 @@ fn set_lengths(lengths: &mut [u32], vertices: u32, longer: u32)
 fn set_edges(edges: &mut [u32], vertices: u32)
     requires { vertices ≤ 1024 }
 {
-    let mut v: u32 = 1;
-    while v < vertices {
+    for v in 1..vertices {
         let at = 2 * (v as usize) - 2;
         set_number(edges, at, v);
         set_number(edges, at + 1, v + 1);
-        v += 1;
     }
 }
 
@@ -96,20 +95,16 @@ fn set_edges(edges: &mut [u32], vertices: u32)
 fn set_stop(paths: &mut [u32], v: u32)
     requires { v < 1024 }
 {
-    let mut i: usize = 0;
-    while i < 16 {
+    for i in 0..16 {
         set_number(paths, 1024 * i + (v as usize), v + 1);
-        i += 1;
     }
 }
 
 fn set_paths(paths: &mut [u32], vertices: u32)
     requires { vertices ≤ 1024 }
 {
-    let mut v: u32 = 0;
-    while v < vertices {
+    for v in 0..vertices {
         set_stop(paths, v);
-        v += 1;
     }
 }
 
@@ -176,6 +171,7 @@ fn size_of(base: &[u8], changes: &[u8], list: u8, most: usize) -> usize
 
 // Runs a case with its content and output.
 fn run_into(
+    to: &mut impl Write,
     name: &[u8],
     base: &[u8],
     changes: &[u8],
@@ -185,12 +181,12 @@ fn run_into(
     paths: &[u32],
     counts: &[u32],
     out: &mut [u8],
-) {
+) -> io::Result<()> {
     let n = number_of(base, changes, b'n');
     let m = number_of(base, changes, b'm');
     let k = number_of(base, changes, b'K');
     let answer = write_graph(n, m, k, letters, lengths, edges, paths, counts, out);
-    tell(name, answer, out);
+    tell(to, name, answer, out)
 }
 
 // Room for more than 65,536 bytes.
@@ -199,7 +195,13 @@ fn large_room() -> [u8; 65600] {
 }
 
 // Runs a case.
-fn run(name: &[u8], base: &[u8], changes: &[u8], longer: u32) {
+fn run(
+    to: &mut impl Write,
+    name: &[u8],
+    base: &[u8],
+    changes: &[u8],
+    longer: u32,
+) -> io::Result<()> {
     let letters = letters_of(base, changes, longer);
     let lengths = lengths_of(base, changes, longer);
     let edges = edges_of(base, changes, longer);
@@ -209,6 +211,7 @@ fn run(name: &[u8], base: &[u8], changes: &[u8], longer: u32) {
     let lent = size_of(base, changes, b'F', 1024);
     let room = size_of(base, changes, b'R', 65600);
     run_into(
+        to,
         name,
         base,
         changes,
@@ -218,28 +221,29 @@ fn run(name: &[u8], base: &[u8], changes: &[u8], longer: u32) {
         &paths,
         &counts,
         &mut out[..room],
-    );
+    )
 }
 
 // Runs a case over the graph that it is of.
-fn run_named(text: &[u8], name: &[u8], changes: &[u8]) {
+fn run_named(to: &mut impl Write, text: &[u8], name: &[u8], changes: &[u8]) -> io::Result<()> {
     let longer = changed(changes, b'B', 0);
     let base = if 0 < longer { 1 } else { 0 };
-    run(name, part(text, base), changes, longer);
+    run(to, name, part(text, base), changes, longer)
 }
 
 // Runs every case, each of which has two parts of the text.
-fn run_all(text: &[u8]) {
+fn run_all(to: &mut impl Write, text: &[u8]) -> io::Result<()> {
     let cases = parts(text) / 2;
-    let mut k: usize = 1;
-    while k < cases {
-        run_named(text, part(text, 2 * k), part(text, 2 * k + 1));
-        k += 1;
+    for k in 1..cases {
+        run_named(to, text, part(text, 2 * k), part(text, 2 * k + 1))?;
     }
+    Ok(())
 }
 
-fn main() {
+fn main(rt: HostRuntime) -> io::Result<()> {
+    let mut to = rt.stdout();
     run_all(
+        &mut to,
         b"n=4;m=4;K=2;R=31;F=1024;s0=65;s1=67;s2=71;s3=84;s4=84;s5=67;s6=65;L0=2;L1=1;L2=2;L3=2;E0=1;E1=2;E2=1;E3=3;E4=2;E5=4;\
           E6=3;E7=4;P0=1;P1=2;P2=4;P1024=1;P1025=3;P1026=4;C0=3;C1=3;|\
           n=1024;m=1023;K=16;R=65600;F=1024;C0=1024;C1=1024;C2=1024;C3=1024;C4=1024;C5=1024;C6=1024;C7=1024;C8=1024;C9=1024;\
@@ -258,5 +262,5 @@ fn main() {
           path 1 5 4, vertex 3 on no path|P1025=5;|path 1 4, vertex 3 on no path|C1=2;P1025=4;|\
           vertex 1024 on no path, 65537 bytes|B=236;C0=1023;C1=1023;C2=1023;C3=1023;C4=1023;C5=1023;C6=1023;C7=1023;C8=1023;C9=1023;C10=1023;C11=1023;C12=1023;C13=1023;C14=1023;C15=1023;|\
           65537 bytes, room 0|B=204;R=0;|vertex 3 on no path, room 0|K=1;R=0;|1023 lengths, room 0|F=1023;R=0;|",
-    );
+    )
 }

@@ -22,7 +22,6 @@ use Rattle.anchors.proofs.AnchorFaults.{both-refused}
 use Rattle.anchors.proofs.BothFiles.{both-taken}
 use Rattle.anchors_read.specs.Answer as reader
 use Rattle.anchors_read.specs.declared.AnchorsAnswer.{AnchorsAnswer}
-use Rattle.chain.specs.Steps.{anchor_at}
 use Rattle.chain.specs.Named.{Back, stop, go, Returned, empty, some}
 use Rattle.chain.specs.ChainEntries.{Result, IsSweep, ChainBuffers, roomy_chain, chain_reply, filled_chain}
 use Rattle.placing.specs.Answer as entries

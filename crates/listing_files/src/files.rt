@@ -4,6 +4,9 @@ ghost use Rattle.wire.specs.Sizes.{most_file_bytes};
 ghost use Rattle.listing_files.specs.Files.{Within, LoadedIn};
 
 use loaded::Loaded;
+use std::io::Read;
+use std::rt::Files;
+use std::{fs, str};
 
 // What one read brought.
 #[derive(Clone, Copy)]
@@ -21,29 +24,24 @@ pub fn room() -> [u8; 65537]
 }
 
 // One read, to the places from `from` on.
-fn read_more(fd: i32, buf: &mut [u8], from: usize) -> More
+fn read_more(file: &mut impl Read, buf: &mut [u8], from: usize) -> More
     requires { from ≤ length buf.old }
     ensures { Within result from (length buf.old) }
 {
-    let rest = &mut buf[from..];
-    let got = libc::read(fd, rest);
-    if got < 0 {
-        return More::Failed;
+    match file.read(&mut buf[from..]) {
+        Ok(0) => More::End,
+        Ok(k) => More::Put(k),
+        Err(_) => More::Failed,
     }
-    let k = io::count(got, rest);
-    if k == 0 {
-        return More::End;
-    }
-    More::Put(k)
 }
 
 // To the file's end, or until the buffer is full.
-fn read_all(fd: i32, buf: &mut [u8]) -> Loaded
+fn read_all(file: &mut impl Read, buf: &mut [u8]) -> Loaded
     ensures { LoadedIn result (length buf.old) }
 {
     let mut n: usize = 0;
     while n < buf.len() {
-        let m = read_more(fd, buf, n);
+        let m = read_more(file, buf, n);
         match m {
             More::Put(k) => {
                 n += k;
@@ -59,15 +57,16 @@ fn read_all(fd: i32, buf: &mut [u8]) -> Loaded
     Loaded::Bytes(n)
 }
 
-// The file of that name, from its first byte. A file that is not opened, or not read to its end or as far as the buffer goes, is missing.
-pub fn load(path: &[u8], buf: &mut [u8]) -> Loaded
+// The file of that name, from its first byte. A file that is not opened, or not read to its end or as far as the buffer goes, is missing; so is
+// one whose name is not text, which the library cannot open.
+pub fn load(rt: &impl Files, path: &[u8], buf: &mut [u8]) -> Loaded
     ensures { LoadedIn result (length buf.old) }
 {
-    let fd = os::open_read(path);
-    if fd < 0 {
+    let Ok(name) = str::from_utf8(path) else {
         return Loaded::Missing;
+    };
+    match fs::open(rt, name) {
+        Ok(mut file) => read_all(&mut file, buf),
+        Err(_) => Loaded::Missing,
     }
-    let r = read_all(fd, buf);
-    libc::close(fd);
-    r
 }

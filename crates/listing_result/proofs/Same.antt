@@ -1,5 +1,5 @@
 -- What is laid out of the buffers that a result is in, is its listing. Assumes nothing.
-use Prim.Native.Nat.{ℕ, ◌-◌, ◌≤◌, ◌<◌}
+use Prim.Native.Nat.{ℕ, ◌≤◌}
 use mathlib.Core.Path.{◌≡◌, sym, ap, ◌∙◌, subst}
 use mathlib.Core.List.{List, ◌++◌}
 use native.Mathlib.Omega.{arith}
@@ -9,7 +9,6 @@ use Rattle.wire.specs.Sizes.{full_chain}
 use Rattle.rounds.specs.Rounds.{Within}
 use Rattle.rounds.specs.Table.{entry}
 use Rattle.anchors.specs.Anchors.{Anchor}
-use Rattle.anchors.specs.AnchorEntries.{anchor_in}
 use Rattle.chain.specs.Steps.{anchor_at}
 use Rattle.chain.specs.ChainEntries.{Result}
 use Rattle.listing_lines.specs.Lines.{found_line, Printed}

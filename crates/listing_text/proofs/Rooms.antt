@@ -1,14 +1,12 @@
 -- How many bytes the lines of anchors take: every number has at most ten digits.
 -- Assumes nothing.
 use Prim.Native.Nat.{ℕ, ◌+◌, ◌-◌, ◌*◌, ◌^◌, ◌≤◌, ◌<◌}
-use mathlib.Core.List.{List, ◌++◌}
+use mathlib.Core.List.{List}
 use native.Mathlib.Omega.{arith}
 use lib.ListN.{length, get_or, length-append}
 use Rattle.anchors.specs.Anchors.{Anchor, y, d, per_anchor}
 use Rattle.anchors.specs.AnchorEntries.{anchor_in}
 use Rattle.rounds.specs.Table.{entry}
-use Rattle.decimal_text.specs.Decimal.{decimal}
-use Rattle.decimal_text.specs.Words.{line_end, said, told}
 use Rattle.listing_lines.specs.Lines.{line_room}
 use Rattle.listing_text.specs.Lines.{each, anchor_line, line_in, lines_in}
 use Rattle.decimal_text.proofs.Digits.{ten_digits, decimal_most}

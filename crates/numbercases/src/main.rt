@@ -13,6 +13,9 @@ ghost use Rattle.std.specs.Prelude.{◌≡◌, true, ℕ, ◌≤◌, ◌<◌, le
 ghost use Rattle.numbercases.specs.Digits.{digit_byte};
 ghost use Rattle.numbercases.specs.Cases.{DecimalOf, BytesOf};
 
+use caseinput::input::read_full;
+use std::io;
+use std::io::Write;
 use wire::numbers::{Cursor, Number, group_count, put_number, read_number};
 
 // A decimal number, or other text.
@@ -169,133 +172,134 @@ fn read_hex(s: &[u8], out: &mut [u8]) -> Hex
     read_pairs(s, out)
 }
 
-// Writes text to standard output.
-fn say(text: &[u8]) {
-    io::write_all(1, text);
+// Writes text.
+fn say(to: &mut impl Write, text: &[u8]) -> io::Result<()> {
+    to.write_all(text)
 }
 
-// Writes a number to standard output.
-fn say_number(n: u64) {
-    io::print_decimal(1, n);
+// Writes a number.
+fn say_number(to: &mut impl Write, n: u64) -> io::Result<()> {
+    write!(to, "{n}")
 }
 
 // Writes one byte as two digits.
-fn say_byte(b: u8) {
+fn say_byte(to: &mut impl Write, b: u8) -> io::Result<()> {
     let mut text = [0u8; 2];
     text[0] = digit_byte(b / 16);
     text[1] = digit_byte(b % 16);
-    say(&text);
+    say(to, &text)
 }
 
 // Writes bytes as hexadecimal digits.
-fn say_bytes(bytes: &[u8]) {
-    let mut i = 0;
-    while i < bytes.len() {
-        say_byte(bytes[i]);
-        i += 1;
+fn say_bytes(to: &mut impl Write, bytes: &[u8]) -> io::Result<()> {
+    for b in bytes {
+        say_byte(to, *b)?;
     }
+    Ok(())
 }
 
 // Writes that a line is not a case.
-fn not_a_case() {
-    say(b"not a case\n");
+fn not_a_case(to: &mut impl Write) -> io::Result<()> {
+    say(to, b"not a case\n")
 }
 
 // Writes what reading a number found.
-fn say_found(found: Number) {
+fn say_found(to: &mut impl Write, found: Number) -> io::Result<()> {
     match found {
         Number::Value(value, next) => {
-            say(b" -> value ");
-            say_number(value as u64);
-            say(b" next ");
-            say_number(next.at as u64);
+            say(to, b" -> value ")?;
+            say_number(to, value as u64)?;
+            say(to, b" next ")?;
+            say_number(to, next.at as u64)?;
         }
         Number::Fault(fault, place) => {
-            say(b" -> fault ");
-            say_number(fault as u64);
-            say(b" place ");
-            say_number(place as u64);
+            say(to, b" -> fault ")?;
+            say_number(to, fault as u64)?;
+            say(to, b" place ")?;
+            say_number(to, place as u64)?;
         }
     }
-    say(b"\n");
+    say(to, b"\n")
 }
 
 // Answers the line `read HEX at PLACE`, of which `rest` is what follows `read `.
-fn answer_read(line: &[u8], rest: &[u8]) {
+fn answer_read(to: &mut impl Write, line: &[u8], rest: &[u8]) -> io::Result<()> {
     let space = find(rest, b' ');
     let after = tail(rest, space);
     if !starts(after, b" at ") {
-        return not_a_case();
+        return not_a_case(to);
     }
     let place = read_decimal(tail(after, 4));
     let Decimal::Value(at) = place else {
-        return not_a_case();
+        return not_a_case(to);
     };
     let mut bytes = [0u8; 64];
     let read = read_hex(head(rest, space), &mut bytes);
     let Hex::Bytes(n) = read else {
-        return not_a_case();
+        return not_a_case(to);
     };
-    say(line);
-    say_found(read_number(head(&bytes, n), Cursor { at: at as usize }));
+    say(to, line)?;
+    say_found(to, read_number(head(&bytes, n), Cursor { at: at as usize }))
 }
 
 // Writes how x is written: at most five bytes, as many as are counted.
-fn say_written(x: u32) {
+fn say_written(to: &mut impl Write, x: u32) -> io::Result<()> {
     let counted = group_count(x);
     if 5 < counted {
-        return say(b"group_count differs");
+        return say(to, b"group_count differs");
     }
     let mut out = [0u8; 5];
     let n = put_number(&mut out, x);
     if n != counted {
-        return say(b"group_count differs");
+        return say(to, b"group_count differs");
     }
-    say_bytes(head(&out, n));
+    say_bytes(to, head(&out, n))
 }
 
 // Answers the line `write V`, of which `rest` is what follows `write `.
-fn answer_write(line: &[u8], rest: &[u8]) {
+fn answer_write(to: &mut impl Write, line: &[u8], rest: &[u8]) -> io::Result<()> {
     let value = read_decimal(rest);
     let Decimal::Value(x) = value else {
-        return not_a_case();
+        return not_a_case(to);
     };
     if 4294967295 < x {
-        return not_a_case();
+        return not_a_case(to);
     }
-    say(line);
-    say(b" -> ");
-    say_written(x as u32);
-    say(b"\n");
+    say(to, line)?;
+    say(to, b" -> ")?;
+    say_written(to, x as u32)?;
+    say(to, b"\n")
 }
 
 // Answers one line.
-fn answer(line: &[u8]) {
+fn answer(to: &mut impl Write, line: &[u8]) -> io::Result<()> {
     if starts(line, b"read ") {
-        return answer_read(line, tail(line, 5));
+        return answer_read(to, line, tail(line, 5));
     }
     if starts(line, b"write ") {
-        return answer_write(line, tail(line, 6));
+        return answer_write(to, line, tail(line, 6));
     }
-    not_a_case();
+    not_a_case(to)
 }
 
 // Answers every line of the text.
-fn answer_all(text: &[u8]) {
+fn answer_all(to: &mut impl Write, text: &[u8]) -> io::Result<()> {
     let mut at = 0;
     while at < text.len() {
         let rest = &text[at..];
         let n = find(rest, b'\n');
-        answer(head(rest, n));
+        answer(to, head(rest, n))?;
         at += n;
         if at < text.len() {
             at += 1;
         }
     }
+    Ok(())
 }
 
-fn main() {
-    let mut space = io::large_buffer();
-    let n = io::read_full(0, &mut space);
-    answer_all(head(&space, n));
+fn main(rt: HostRuntime) -> io::Result<()> {
+    let mut space = [0u8; 65536];
+    let n = read_full(&mut rt.stdin(), &mut space)?;
+    let mut to = rt.stdout();
+    answer_all(&mut to, head(&space, n))
 }

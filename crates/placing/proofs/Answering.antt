@@ -1,6 +1,6 @@
 -- From each way through an entry to its promise; and that the promise admits one answer. Assumes nothing.
 use Prim.Native.Nat.{ℕ}
-use mathlib.Core.Path.{◌≡◌, refl, sym, ap, ◌∙◌, subst}
+use mathlib.Core.Path.{◌≡◌, refl, sym, ap, ◌∙◌}
 use mathlib.Core.List.{List}
 use lib.ListN.{length}
 use Rattle.wire.specs.Found.{Reply, accepted, refused}
@@ -12,7 +12,7 @@ use Rattle.chain.proofs.Results.{Same, result-one, swept-one}
 use Rattle.placing.specs.declared.ChainAnswer.{ChainAnswer}
 use Rattle.placing_over.specs.declared.over.Placement.{Placement}
 use Rattle.placing.specs.Answer.{refusal_of, placed_of, acceptance_of, Placed, Outcome, Answered}
-use Rattle.placing_over.specs.Laying.{placement_of, Laid}
+use Rattle.placing_over.specs.Laying.{Laid}
 
 module _ (Is : Graph → List Anchor → Result → Type 0) (graph file : List ℕ) (b : ChainBuffers) where
   -- a refusal

@@ -1,6 +1,6 @@
 -- What the entries have from the two readers: the reply, and the content of accepted files. Assumes nothing.
 use Prim.Native.Nat.{ℕ, zero, suc, ◌+◌, ◌-◌, ◌*◌, ◌≤◌, ◌<◌}
-use mathlib.Core.Path.{◌≡◌, refl, sym, ap, ◌∙◌, subst}
+use mathlib.Core.Path.{◌≡◌, refl, sym, ap, ◌∙◌}
 use mathlib.Core.Logic.{◌⊎◌, inl, inr, ⊎_elim}
 use mathlib.Core.List.{List, [], ◌∷◌}
 use mathlib.Core.Bool.{true, false}
@@ -16,9 +16,8 @@ use Rattle.wire.proofs.Laying.{laid_at, length-laid}
 use Rattle.rounds.specs.Rounds.{Within}
 use Rattle.rounds.proofs.Upto.{within}
 use Rattle.graph.proofs.Kept.{both}
-use Rattle.anchors.specs.Anchors.{Anchor, AnchorSet, per_anchor, anchor_numbers}
+use Rattle.anchors.specs.Anchors.{Anchor, per_anchor, anchor_numbers}
 use Rattle.anchors.specs.AnchorRules.{no_anchor}
-use Rattle.anchors.specs.GoodAnchors.{GoodAnchors}
 use Rattle.anchors.specs.AnchorEntries.{Both, both_reply, anchor_in, AnchorBuffers, roomy_anchors, read_anchors_reply, filled_anchors}
 use Rattle.anchors.proofs.AnchorFaults.{both-refused}
 use Rattle.anchors.proofs.BothFiles.{both-taken, both-good}

@@ -41,8 +41,8 @@ pub fn plain_over(
     requires places_fit { PlacesFit count r numbers.now × (r ≤ most_read) }
     requires full_scores_in_bounds { (full_scores ≤ length scores.old) × (full_chain ≤ length chain.old) }
     ensures { (g : Graph) → (a : AnchorSet) → Over g a n k count lengths.now paths.now reach.now distance.now closed.now numbers.now
-        → Laid IsPlain g a.anchors (record { scores = scores.entry.now; chain = chain.old })
-        (record { scores = scores.exit.now; chain = chain.new }) result }
+        → Laid IsPlain g a.anchors (record { scores = scores.old; chain = chain.old })
+        (record { scores = scores.new; chain = chain.new }) result }
 {
     let mut us = anchor_zeros();
     let mut ys = anchor_zeros();
@@ -83,8 +83,8 @@ fn plain_read(
     requires places_fit { PlacesFit count r numbers.now × (r ≤ most_read) }
     requires full_letters_in_bounds { (full_letters ≤ length letters.old) × (full_scores ≤ length scores.old) × (full_chain ≤ length chain.old) }
     ensures { (p : Parsed) → (a : AnchorSet) → graph_of graph.now ≡ good p → AnchorsLie p.graph a count numbers.now
-        → Laid IsPlain p.graph a.anchors (record { scores = scores.entry.now; chain = chain.old })
-        (record { scores = scores.exit.now; chain = chain.new }) result }
+        → Laid IsPlain p.graph a.anchors (record { scores = scores.old; chain = chain.old })
+        (record { scores = scores.new; chain = chain.new }) result }
 {
     let mut lengths = vertex_zeros();
     let mut paths = cell_zeros();
@@ -121,8 +121,8 @@ fn plain_read(
 // The plain pass: the same scores and chain as the sweep, with no rounds; a refusal writes nothing.
 pub fn plain(graph: &[u8], file: &[u8], scores: &mut [u32], chain: &mut [u32]) -> ChainAnswer
     ensures { Answered IsPlain graph.now file.now
-        (record { scores = scores.entry.now; chain = chain.old })
-        (record { scores = scores.exit.now; chain = chain.new })
+        (record { scores = scores.old; chain = chain.old })
+        (record { scores = scores.new; chain = chain.new })
         result }
 {
     let mut letters = letter_zeros();

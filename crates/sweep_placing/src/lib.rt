@@ -38,8 +38,8 @@ pub fn sweep_over(
     requires some_over { SomeOver n k count lengths.now paths.now reach.now distance.now closed.now numbers.now }
     requires full_scores_in_bounds { (full_scores ≤ length scores.old) × (full_chain ≤ length chain.old) }
     ensures { (g : Graph) → (a : AnchorSet) → Over g a n k count lengths.now paths.now reach.now distance.now closed.now numbers.now
-        → Laid IsSweep g a.anchors (record { scores = scores.entry.now; chain = chain.old })
-        (record { scores = scores.exit.now; chain = chain.new }) result }
+        → Laid IsSweep g a.anchors (record { scores = scores.old; chain = chain.old })
+        (record { scores = scores.new; chain = chain.new }) result }
 {
     let mut us = anchor_zeros();
     let mut ys = anchor_zeros();
@@ -77,8 +77,8 @@ fn sweep_read(
     requires some_read { SomeRead graph.now count numbers.now }
     requires full_letters_in_bounds { (full_letters ≤ length letters.old) × (full_scores ≤ length scores.old) × (full_chain ≤ length chain.old) }
     ensures { (p : Parsed) → (a : AnchorSet) → graph_of graph.now ≡ good p → AnchorsLie p.graph a count numbers.now
-        → Laid IsSweep p.graph a.anchors (record { scores = scores.entry.now; chain = chain.old })
-        (record { scores = scores.exit.now; chain = chain.new }) result }
+        → Laid IsSweep p.graph a.anchors (record { scores = scores.old; chain = chain.old })
+        (record { scores = scores.new; chain = chain.new }) result }
 {
     let mut lengths = vertex_zeros();
     let mut paths = cell_zeros();
@@ -114,8 +114,8 @@ fn sweep_read(
 // The sweep: the scores of the anchors and the chain that is returned, with the rounds made; a refusal writes nothing.
 pub fn sweep(graph: &[u8], file: &[u8], scores: &mut [u32], chain: &mut [u32]) -> ChainAnswer
     ensures { Answered IsSweep graph.now file.now
-        (record { scores = scores.entry.now; chain = chain.old })
-        (record { scores = scores.exit.now; chain = chain.new })
+        (record { scores = scores.old; chain = chain.old })
+        (record { scores = scores.new; chain = chain.new })
         result }
 {
     let mut letters = letter_zeros();

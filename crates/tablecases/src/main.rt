@@ -6,6 +6,8 @@
 
 ghost use Rattle.std.specs.Prelude.{◌+◌, ◌*◌, ◌<◌, ◌≤◌, length};
 
+use std::io;
+use std::io::Write;
 use tables::{TablesAnswer, tables};
 use telling::{say, say_numbers};
 use texts::{part, say_filled};
@@ -19,22 +21,37 @@ fn at_place(table: &[u32], at: usize) -> u32 {
 }
 
 // Writes the row of vertex v + 1, k cells of each table.
-fn show_row(reach: &[u32], distance: &[u32], closed: &[u32], v: u32, k: u32) {
+fn show_row(
+    to: &mut impl Write,
+    reach: &[u32],
+    distance: &[u32],
+    closed: &[u32],
+    v: u32,
+    k: u32,
+) -> io::Result<()> {
     let words: &[u8] = b" /|\n|";
     let row = v as usize;
-    say_numbers(reach, 16 * row, k as usize);
-    say(part(words, 0));
-    say_numbers(distance, 16 * row, k as usize);
-    say(part(words, 0));
-    say_numbers(closed, row, 1);
-    say(part(words, 1));
+    say_numbers(to, reach, 16 * row, k as usize)?;
+    say(to, part(words, 0))?;
+    say_numbers(to, distance, 16 * row, k as usize)?;
+    say(to, part(words, 0))?;
+    say_numbers(to, closed, row, 1)?;
+    say(to, part(words, 1))
 }
 
 // Writes the rows of n vertices, k cells each.
-fn show_rows(reach: &[u32], distance: &[u32], closed: &[u32], n: u32, k: u32) {
+fn show_rows(
+    to: &mut impl Write,
+    reach: &[u32],
+    distance: &[u32],
+    closed: &[u32],
+    n: u32,
+    k: u32,
+) -> io::Result<()> {
     for v in 0..n {
-        show_row(reach, distance, closed, v, k);
+        show_row(to, reach, distance, closed, v, k)?;
     }
+    Ok(())
 }
 
 // Whether every place is as it was.
@@ -96,19 +113,27 @@ fn digest_of(reach: &[u32], distance: &[u32], closed: &[u32]) -> u64 {
 }
 
 // Writes what the buffers hold.
-fn tell_places(a: TablesAnswer, reach: &[u32], distance: &[u32], closed: &[u32]) {
+fn tell_places(
+    to: &mut impl Write,
+    a: TablesAnswer,
+    reach: &[u32],
+    distance: &[u32],
+    closed: &[u32],
+) -> io::Result<()> {
     if all_untouched(reach, distance, closed) {
-        return say(b" untouched\n");
+        return say(to, b" untouched\n");
     }
-    say_filled(b" digest #\n", &[digest_of(reach, distance, closed)]);
+    say_filled(to, b" digest #\n", &[digest_of(reach, distance, closed)])?;
     if a.vertices <= 8 {
-        show_rows(reach, distance, closed, a.vertices, a.paths);
+        show_rows(to, reach, distance, closed, a.vertices, a.paths)?;
     }
+    Ok(())
 }
 
 // Writes a case's answer.
-fn say_answer(a: TablesAnswer) {
+fn say_answer(to: &mut impl Write, a: TablesAnswer) -> io::Result<()> {
     say_filled(
+        to,
         b": number # file # place # n # K # rounds # #",
         &[
             a.number as u64,
@@ -119,71 +144,90 @@ fn say_answer(a: TablesAnswer) {
             a.reachrounds as u64,
             a.distancerounds as u64,
         ],
-    );
+    )
 }
 
 // Writes a case's answer, and what the buffers hold.
-fn tell(name: &[u8], a: TablesAnswer, reach: &[u32], distance: &[u32], closed: &[u32]) {
-    say(name);
-    say_answer(a);
-    tell_places(a, reach, distance, closed);
+fn tell(
+    to: &mut impl Write,
+    name: &[u8],
+    a: TablesAnswer,
+    reach: &[u32],
+    distance: &[u32],
+    closed: &[u32],
+) -> io::Result<()> {
+    say(to, name)?;
+    say_answer(to, a)?;
+    tell_places(to, a, reach, distance, closed)
 }
 
 // Makes the tables of a file in lent buffers.
-fn show_in(name: &[u8], file: &[u8], reach: &mut [u32], distance: &mut [u32], closed: &mut [u32]) {
+fn show_in(
+    to: &mut impl Write,
+    name: &[u8],
+    file: &[u8],
+    reach: &mut [u32],
+    distance: &mut [u32],
+    closed: &mut [u32],
+) -> io::Result<()> {
     let a = tables(file, reach, distance, closed);
-    tell(name, a, reach, distance, closed);
+    tell(to, name, a, reach, distance, closed)
 }
 
 // Makes the tables of a file in buffers of full size.
-fn show(name: &[u8], file: &[u8]) {
+fn show(to: &mut impl Write, name: &[u8], file: &[u8]) -> io::Result<()> {
     let mut reach = [BEFORE; 16384];
     let mut distance = [BEFORE; 16384];
     let mut closed = [BEFORE; 1024];
-    show_in(name, file, &mut reach, &mut distance, &mut closed);
+    show_in(to, name, file, &mut reach, &mut distance, &mut closed)
 }
 
 // One place less in the reach table, in the distances, in the closed walks.
-fn show_short_reach(name: &[u8], file: &[u8]) {
+fn show_short_reach(to: &mut impl Write, name: &[u8], file: &[u8]) -> io::Result<()> {
     let mut reach = [BEFORE; 16383];
     let mut distance = [BEFORE; 16384];
     let mut closed = [BEFORE; 1024];
-    show_in(name, file, &mut reach, &mut distance, &mut closed);
+    show_in(to, name, file, &mut reach, &mut distance, &mut closed)
 }
 
-fn show_short_distance(name: &[u8], file: &[u8]) {
+fn show_short_distance(to: &mut impl Write, name: &[u8], file: &[u8]) -> io::Result<()> {
     let mut reach = [BEFORE; 16384];
     let mut distance = [BEFORE; 16383];
     let mut closed = [BEFORE; 1024];
-    show_in(name, file, &mut reach, &mut distance, &mut closed);
+    show_in(to, name, file, &mut reach, &mut distance, &mut closed)
 }
 
-fn show_short_closed(name: &[u8], file: &[u8]) {
+fn show_short_closed(to: &mut impl Write, name: &[u8], file: &[u8]) -> io::Result<()> {
     let mut reach = [BEFORE; 16384];
     let mut distance = [BEFORE; 16384];
     let mut closed = [BEFORE; 1023];
-    show_in(name, file, &mut reach, &mut distance, &mut closed);
+    show_in(to, name, file, &mut reach, &mut distance, &mut closed)
 }
 
 // Writes what two places of each buffer hold.
-fn show_beyond(reach: &[u32], distance: &[u32], closed: &[u32]) {
-    say(b"beyond");
-    say_numbers(reach, 16384, 1);
-    say_numbers(reach, 16389, 1);
-    say_numbers(distance, 16384, 1);
-    say_numbers(distance, 16389, 1);
-    say_numbers(closed, 1024, 1);
-    say_numbers(closed, 1029, 1);
-    say(b"\n");
+fn show_beyond(
+    to: &mut impl Write,
+    reach: &[u32],
+    distance: &[u32],
+    closed: &[u32],
+) -> io::Result<()> {
+    say(to, b"beyond")?;
+    say_numbers(to, reach, 16384, 1)?;
+    say_numbers(to, reach, 16389, 1)?;
+    say_numbers(to, distance, 16384, 1)?;
+    say_numbers(to, distance, 16389, 1)?;
+    say_numbers(to, closed, 1024, 1)?;
+    say_numbers(to, closed, 1029, 1)?;
+    say(to, b"\n")
 }
 
 // More places than the full sizes: those beyond stay as they were.
-fn show_longer(name: &[u8], file: &[u8]) {
+fn show_longer(to: &mut impl Write, name: &[u8], file: &[u8]) -> io::Result<()> {
     let mut reach = [BEFORE; 16390];
     let mut distance = [BEFORE; 16390];
     let mut closed = [BEFORE; 1030];
-    show_in(name, file, &mut reach, &mut distance, &mut closed);
-    show_beyond(&reach, &distance, &closed);
+    show_in(to, name, file, &mut reach, &mut distance, &mut closed)?;
+    show_beyond(to, &reach, &distance, &closed)
 }
 
 // Sets a place, where it is there.
@@ -312,58 +356,59 @@ fn put_both_ways(out: &mut [u8], n: u32) -> usize
 }
 
 // Makes the tables of the file that a buffer's front is.
-fn show_front(name: &[u8], bytes: &[u8], end: usize)
+fn show_front(to: &mut impl Write, name: &[u8], bytes: &[u8], end: usize) -> io::Result<()>
     requires { end ≤ length bytes.now }
 {
-    show(name, &bytes[..end]);
+    show(to, name, &bytes[..end])
 }
 
 // Makes the tables of n vertices in a row with edges both ways.
-fn show_both_ways(name: &[u8], n: u32)
+fn show_both_ways(to: &mut impl Write, name: &[u8], n: u32) -> io::Result<()>
     requires { (1 ≤ n) × (n ≤ 1024) }
 {
     let mut bytes = [0u8; 16384];
     let end = put_both_ways(&mut bytes, n);
-    show_front(name, &bytes, end);
+    show_front(to, name, &bytes, end)
 }
 
 // Makes the tables of the file after a name.
-fn show_at(text: &[u8], name: usize, file: usize) {
-    show(part(text, name), part(text, file));
+fn show_at(to: &mut impl Write, text: &[u8], name: usize, file: usize) -> io::Result<()> {
+    show(to, part(text, name), part(text, file))
 }
 
 // Graphs of document 01, and small ones with cycles.
-fn accepted(text: &[u8]) {
-    show_at(text, 0, 1);
-    show_at(text, 2, 3);
-    show_at(text, 4, 5);
-    show_at(text, 6, 7);
-    show_at(text, 8, 9);
-    show_at(text, 10, 11);
-    show_at(text, 12, 13);
-    show_at(text, 14, 15);
+fn accepted(to: &mut impl Write, text: &[u8]) -> io::Result<()> {
+    show_at(to, text, 0, 1)?;
+    show_at(to, text, 2, 3)?;
+    show_at(to, text, 4, 5)?;
+    show_at(to, text, 6, 7)?;
+    show_at(to, text, 8, 9)?;
+    show_at(to, text, 10, 11)?;
+    show_at(to, text, 12, 13)?;
+    show_at(to, text, 14, 15)
 }
 
 // Refused files.
-fn refused(text: &[u8]) {
-    show_at(text, 0, 1);
-    show_at(text, 2, 3);
-    show_at(text, 4, 5);
-    show_at(text, 6, 7);
-    show_at(text, 8, 9);
+fn refused(to: &mut impl Write, text: &[u8]) -> io::Result<()> {
+    show_at(to, text, 0, 1)?;
+    show_at(to, text, 2, 3)?;
+    show_at(to, text, 4, 5)?;
+    show_at(to, text, 6, 7)?;
+    show_at(to, text, 8, 9)
 }
 
 // Buffers of other sizes.
-fn rooms(text: &[u8]) {
-    show_short_reach(part(text, 0), part(text, 1));
-    show_short_distance(part(text, 2), part(text, 3));
-    show_short_closed(part(text, 4), part(text, 5));
-    show_longer(part(text, 6), part(text, 7));
+fn rooms(to: &mut impl Write, text: &[u8]) -> io::Result<()> {
+    show_short_reach(to, part(text, 0), part(text, 1))?;
+    show_short_distance(to, part(text, 2), part(text, 3))?;
+    show_short_closed(to, part(text, 4), part(text, 5))?;
+    show_longer(to, part(text, 6), part(text, 7))
 }
 
 // The cases before and after the rows of vertices with edges both ways.
-fn first_cases() {
+fn first_cases(to: &mut impl Write) -> io::Result<()> {
     accepted(
+        to,
         b"G1|\x01\x04\x02AC\x01G\x02TT\x02CA\x04\x01\x02\x01\x03\x02\x04\x03\x04\x02\x03\x01\x02\x04\x03\x01\x03\x04|\
           G2|\x01\x03\x01A\x02CC\x01G\x03\x01\x02\x02\x03\x03\x02\x01\x03\x01\x02\x03|\
           one vertex|\x01\x01\x01A\x00\x01\x01\x01|\
@@ -372,28 +417,31 @@ fn first_cases() {
           a fork, paths 1 2 and 3|\x01\x03\x01A\x02CC\x03GGG\x02\x01\x02\x01\x03\x02\x02\x01\x02\x01\x03|\
           no edges, paths 3, 2, 1 and 3|\x01\x03\x01A\x02CC\x03GGG\x00\x04\x01\x03\x01\x02\x01\x01\x01\x03|\
           two ways, one shorter|\x01\x04\x02AC\x09GGGGGGGGG\x01T\x01A\x05\x01\x02\x01\x03\x02\x04\x03\x04\x04\x01\x02\x03\x01\x02\x04\x01\x03|",
-    );
+    )
 }
 
-fn last_cases() {
+fn last_cases(to: &mut impl Write) -> io::Result<()> {
     refused(
+        to,
         b"empty||\
           an anchor file|\x02\x01A\x00|\
           a path step that is no edge|\x01\x02\x01A\x01C\x00\x01\x02\x01\x02|\
           a vertex on no path|\x01\x02\x01A\x01C\x00\x01\x01\x01|\
           a byte left over|\x01\x01\x01A\x00\x01\x01\x01\x00|",
-    );
+    )?;
     rooms(
+        to,
         b"reach of 16383|\x01\x01\x01A\x00\x01\x01\x01|\
           distance of 16383|\x01\x01\x01A\x00\x01\x01\x01|\
           closed of 1023||\
           longer buffers|\x01\x03\x01A\x02CC\x01G\x03\x01\x02\x02\x03\x03\x02\x01\x03\x01\x02\x03|",
-    );
+    )
 }
 
-fn main() {
-    first_cases();
-    show_both_ways(b"both ways, 5 vertices", 5);
-    show_both_ways(b"both ways, 1024 vertices", 1024);
-    last_cases();
+fn main(rt: HostRuntime) -> io::Result<()> {
+    let mut to = rt.stdout();
+    first_cases(&mut to)?;
+    show_both_ways(&mut to, b"both ways, 5 vertices", 5)?;
+    show_both_ways(&mut to, b"both ways, 1024 vertices", 1024)?;
+    last_cases(&mut to)
 }

@@ -4,56 +4,40 @@
 ghost use Rattle.std.specs.Prelude.{◌≡◌};
 ghost use Rattle.telling.specs.Counts.{times_in};
 
+use std::io;
+use std::io::Write;
+
 // What every place of a lent buffer of bytes holds before a call.
 pub const BYTE_BEFORE: u8 = 0xEE;
 
 // The same in a buffer of numbers.
 pub const NUMBER_BEFORE: u32 = 4294967295;
 
-// Writes text to standard output.
-pub fn say(text: &[u8]) {
-    io::write_all(1, text);
+// Writes text.
+pub fn say(to: &mut impl Write, text: &[u8]) -> io::Result<()> {
+    to.write_all(text)
 }
 
 // Writes text and a number.
-pub fn say_number(text: &[u8], x: u64) {
-    say(text);
-    io::print_decimal(1, x);
-}
-
-// A byte as a wider number.
-fn wide(b: u8) -> u64 {
-    b as u64
-}
-
-// A number as a wider one.
-fn long(x: u32) -> u64 {
-    x as u64
+pub fn say_number(to: &mut impl Write, text: &[u8], x: u64) -> io::Result<()> {
+    say(to, text)?;
+    write!(to, "{x}")
 }
 
 // Writes the first n bytes as hexadecimal digits.
-pub fn say_bytes(bytes: &[u8], n: usize) {
-    let mut i: usize = 0;
-    while i < bytes.len() {
-        if i < n {
-            say(b" ");
-            io::print_hex(1, wide(bytes[i]), 2);
-        }
-        i += 1;
+pub fn say_bytes(to: &mut impl Write, bytes: &[u8], n: usize) -> io::Result<()> {
+    for b in bytes.iter().take(n) {
+        write!(to, " {b:02x}")?;
     }
+    Ok(())
 }
 
 // Writes the numbers of n places from a place on.
-pub fn say_numbers(numbers: &[u32], from: usize, n: usize) {
-    let mut i: usize = 0;
-    while i < numbers.len() {
-        if from <= i {
-            if i - from < n {
-                say_number(b" ", long(numbers[i]));
-            }
-        }
-        i += 1;
+pub fn say_numbers(to: &mut impl Write, numbers: &[u32], from: usize, n: usize) -> io::Result<()> {
+    for x in numbers.iter().skip(from).take(n) {
+        write!(to, " {x}")?;
     }
+    Ok(())
 }
 
 // How many bytes are b.

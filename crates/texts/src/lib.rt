@@ -6,6 +6,9 @@ ghost use Rattle.std.specs.Prelude.{◌≡◌};
 ghost use Rattle.telling.specs.Counts.{times_in};
 ghost use Rattle.texts.specs.Parts.{part_of};
 
+use std::io;
+use std::io::Write;
+
 // What ends each part of a text.
 pub const MARK: u8 = b'|';
 
@@ -37,25 +40,27 @@ pub fn part(text: &[u8], k: usize) -> &[u8]
 }
 
 // Writes the number at a place, where it is there.
-fn say_place(numbers: &[u64], at: usize) {
+fn say_place(to: &mut impl Write, numbers: &[u64], at: usize) -> io::Result<()> {
     if at < numbers.len() {
-        io::print_decimal(1, numbers[at]);
+        let x = numbers[at];
+        write!(to, "{x}")?;
     }
+    Ok(())
 }
 
-// Writes a text to standard output, with the next of the numbers in place of each `#`.
-pub fn say_filled(text: &[u8], numbers: &[u64]) {
+// Writes a text, with the next of the numbers in place of each `#`.
+pub fn say_filled(to: &mut impl Write, text: &[u8], numbers: &[u64]) -> io::Result<()> {
     let mut at: usize = 0;
     let mut start: usize = 0;
     let mut i: usize = 0;
     while i < text.len() {
         if text[i] == b'#' {
-            io::write_all(1, &text[start..i]);
-            say_place(numbers, at);
+            to.write_all(&text[start..i])?;
+            say_place(to, numbers, at)?;
             at += 1;
             start = i + 1;
         }
         i += 1;
     }
-    io::write_all(1, &text[start..]);
+    to.write_all(&text[start..])
 }

@@ -1,12 +1,15 @@
 // Graph files, read into buffers of full size and, where accepted, written back.
 use graph_read::{GraphAnswer, read_graph};
 use graph_write::{WrittenAnswer, write_graph};
+use std::io;
+use std::io::Write;
 use telling::{BYTE_BEFORE, NUMBER_BEFORE, count_bytes, count_numbers, say, say_bytes};
 use texts::{part, say_filled};
 
 // Writes the reader's answer.
-fn say_answer(answer: GraphAnswer) {
+fn say_answer(to: &mut impl Write, answer: GraphAnswer) -> io::Result<()> {
     say_filled(
+        to,
         b"number # file # place # n # letters # m # K #",
         &[
             answer.number as u64,
@@ -17,11 +20,12 @@ fn say_answer(answer: GraphAnswer) {
             answer.edges as u64,
             answer.paths as u64,
         ],
-    );
+    )
 }
 
 // Writes after a word how many places of each buffer hold a byte, or a number.
 fn say_count(
+    to: &mut impl Write,
     word: &[u8],
     b: u8,
     x: u32,
@@ -30,8 +34,9 @@ fn say_count(
     edges: &[u32],
     paths: &[u32],
     counts: &[u32],
-) {
+) -> io::Result<()> {
     say_filled(
+        to,
         word,
         &[
             count_bytes(letters, b),
@@ -40,12 +45,20 @@ fn say_count(
             count_numbers(paths, x),
             count_numbers(counts, x),
         ],
-    );
+    )
 }
 
 // Writes how many places of each buffer hold 0, and how many are as they were.
-fn say_places(letters: &[u8], lengths: &[u32], edges: &[u32], paths: &[u32], counts: &[u32]) {
+fn say_places(
+    to: &mut impl Write,
+    letters: &[u8],
+    lengths: &[u32],
+    edges: &[u32],
+    paths: &[u32],
+    counts: &[u32],
+) -> io::Result<()> {
     say_count(
+        to,
         b" zero # # # # #",
         0,
         0,
@@ -54,8 +67,9 @@ fn say_places(letters: &[u8], lengths: &[u32], edges: &[u32], paths: &[u32], cou
         edges,
         paths,
         counts,
-    );
+    )?;
     say_count(
+        to,
         b" before # # # # #\n",
         BYTE_BEFORE,
         NUMBER_BEFORE,
@@ -64,28 +78,30 @@ fn say_places(letters: &[u8], lengths: &[u32], edges: &[u32], paths: &[u32], cou
         edges,
         paths,
         counts,
-    );
+    )
 }
 
 // Writes the writer's answer, and the bytes that it wrote.
-fn tell_written(answer: WrittenAnswer, out: &[u8]) {
+fn tell_written(to: &mut impl Write, answer: WrittenAnswer, out: &[u8]) -> io::Result<()> {
     say_filled(
+        to,
         b"written number # bytes #",
         &[answer.number as u64, answer.bytes as u64],
-    );
-    say_bytes(out, answer.bytes as usize);
-    say(b"\n");
+    )?;
+    say_bytes(to, out, answer.bytes as usize)?;
+    say(to, b"\n")
 }
 
 // Writes the content back, into an output of 31 bytes, which is what G1 takes.
 fn write_back(
+    to: &mut impl Write,
     read: GraphAnswer,
     letters: &[u8],
     lengths: &[u32],
     edges: &[u32],
     paths: &[u32],
     counts: &[u32],
-) {
+) -> io::Result<()> {
     let mut out = [BYTE_BEFORE; 31];
     let answer = write_graph(
         read.vertices,
@@ -98,23 +114,25 @@ fn write_back(
         counts,
         &mut out,
     );
-    tell_written(answer, &out);
+    tell_written(to, answer, &out)
 }
 
 // What the reader made is written, and written back where it is accepted.
 fn tell(
+    to: &mut impl Write,
     answer: GraphAnswer,
     letters: &[u8],
     lengths: &[u32],
     edges: &[u32],
     paths: &[u32],
     counts: &[u32],
-) {
-    say_answer(answer);
-    say_places(letters, lengths, edges, paths, counts);
+) -> io::Result<()> {
+    say_answer(to, answer)?;
+    say_places(to, letters, lengths, edges, paths, counts)?;
     if answer.number == 0 {
-        write_back(answer, letters, lengths, edges, paths, counts);
+        write_back(to, answer, letters, lengths, edges, paths, counts)?;
     }
+    Ok(())
 }
 
 // The longer buffers, of full size.
@@ -131,13 +149,13 @@ fn path_room() -> [u32; 16384] {
 }
 
 // Reads a file of a text into buffers of full size and writes it back.
-fn graph_case(text: &[u8], name: usize, file: usize) {
+fn graph_case(to: &mut impl Write, text: &[u8], name: usize, file: usize) -> io::Result<()> {
     let mut letters = letter_room();
     let mut lengths = [NUMBER_BEFORE; 1024];
     let mut edges = edge_room();
     let mut paths = path_room();
     let mut counts = [NUMBER_BEFORE; 16];
-    say(part(text, name));
+    say(to, part(text, name))?;
     let answer = read_graph(
         part(text, file),
         &mut letters,
@@ -146,27 +164,28 @@ fn graph_case(text: &[u8], name: usize, file: usize) {
         &mut paths,
         &mut counts,
     );
-    tell(answer, &letters, &lengths, &edges, &paths, &counts);
+    tell(to, answer, &letters, &lengths, &edges, &paths, &counts)
 }
 
 // The cases of a text, after its heading: a name and a file for each.
-fn cases_of(text: &[u8]) {
-    say(part(text, 0));
-    graph_case(text, 1, 2);
-    graph_case(text, 3, 4);
-    graph_case(text, 5, 6);
-    graph_case(text, 7, 8);
-    graph_case(text, 9, 10);
-    graph_case(text, 11, 12);
-    graph_case(text, 13, 14);
-    graph_case(text, 15, 16);
-    graph_case(text, 17, 18);
+fn cases_of(to: &mut impl Write, text: &[u8]) -> io::Result<()> {
+    say(to, part(text, 0))?;
+    graph_case(to, text, 1, 2)?;
+    graph_case(to, text, 3, 4)?;
+    graph_case(to, text, 5, 6)?;
+    graph_case(to, text, 7, 8)?;
+    graph_case(to, text, 9, 10)?;
+    graph_case(to, text, 11, 12)?;
+    graph_case(to, text, 13, 14)?;
+    graph_case(to, text, 15, 16)?;
+    graph_case(to, text, 17, 18)
 }
 
 // All graph files: those that "Checked by hand" gives by their bytes, and the graphs of the other cases. (G2 has labels A, CC, G; edges 1-2, 2-3, 3-2;
 // one path 1 2 3.)
-pub fn graph_cases() {
+pub fn graph_cases(to: &mut impl Write) -> io::Result<()> {
     cases_of(
+        to,
         b"graph files\n|\
           the empty file: ||\
           one vertex A: |\x01\x01\x01\x41\x00\x01\x01\x01|\
@@ -177,5 +196,5 @@ pub fn graph_cases() {
           G1: |\x01\x04\x02\x41\x43\x01\x47\x02\x54\x54\x02\x43\x41\x04\x01\x02\x01\x03\x02\x04\x03\x04\x02\x03\x01\x02\x04\x03\x01\x03\x04|\
           G2: |\x01\x03\x01\x41\x02\x43\x43\x01\x47\x03\x01\x02\x02\x03\x03\x02\x01\x03\x01\x02\x03|\
           one vertex A with an edge to itself: |\x01\x01\x01\x41\x01\x01\x01\x01\x01\x01|",
-    );
+    )
 }

@@ -8,8 +8,11 @@ mod graphs; // graphs.rt: graph files, read and written back
 mod numbers; // numbers.rt: numbers, written and read
 mod views; // views.rt: the letters of an anchor
 
-fn main() {
-    numbers::number_cases();
-    graphs::graph_cases();
-    views::view_cases();
+use std::io;
+
+fn main(rt: HostRuntime) -> io::Result<()> {
+    let mut to = rt.stdout();
+    numbers::number_cases(&mut to)?;
+    graphs::graph_cases(&mut to)?;
+    views::view_cases(&mut to)
 }

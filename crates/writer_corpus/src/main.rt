@@ -11,12 +11,14 @@
 // byte past the last one written is not as it was, or the answer's other numbers are not 0, the line says so.
 #![tactic(auto)]
 
-ghost use Rattle.io.specs.Counts.{IsPrefixLen};
+ghost use Rattle.caseinput.specs.Counts.{IsPrefixLen};
 
 use anchors_write::write_anchors;
 use caseinput::digest::{DIGEST_START, put_bytes};
 use caseinput::input::{read_file, read_kind, read_letters, read_number, read_numbers};
 use graph_write::write_graph;
+use std::io;
+use std::io::{BufReader, BufWriter, Read, Write};
 use telling::{BYTE_BEFORE, count_bytes, say};
 use texts::say_filled;
 
@@ -37,37 +39,46 @@ fn kept_of(bytes: &[u8], x: u32) -> usize
 }
 
 // Writes the line of a refusal.
-fn say_refusal(number: u32, file: u32, place: u32) {
+fn say_refusal(to: &mut impl Write, number: u32, file: u32, place: u32) -> io::Result<()> {
     say_filled(
+        to,
         b"refused # file # place #\n",
         &[number as u64, file as u64, place as u64],
-    );
+    )
 }
 
 // Writes the line of bytes that were written.
-fn say_written(bytes: &[u8]) {
+fn say_written(to: &mut impl Write, bytes: &[u8]) -> io::Result<()> {
     say_filled(
+        to,
         b"written # #\n",
         &[bytes.len() as u64, put_bytes(DIGEST_START, bytes)],
-    );
+    )
 }
 
 // Writes a case's line: the answer's number, file, place and bytes, and the output.
-fn tell(number: u32, file: u32, place: u32, bytes: u32, out: &[u8]) {
+fn tell(
+    to: &mut impl Write,
+    number: u32,
+    file: u32,
+    place: u32,
+    bytes: u32,
+    out: &[u8],
+) -> io::Result<()> {
     let kept = kept_of(out, bytes);
     if !untouched(&out[kept..]) {
-        return say(b"more was written\n");
+        return say(to, b"more was written\n");
     }
     if number == 0 {
         if file != 0 || place != 0 {
-            return say(b"an acceptance has a file or a place\n");
+            return say(to, b"an acceptance has a file or a place\n");
         }
-        return say_written(&out[..kept]);
+        return say_written(to, &out[..kept]);
     }
     if bytes != 0 {
-        return say(b"a refusal has bytes\n");
+        return say(to, b"a refusal has bytes\n");
     }
-    say_refusal(number, file, place);
+    say_refusal(to, number, file, place)
 }
 
 // Rooms: for letters, for a file, and for the output, each with some places more than the full size.
@@ -96,6 +107,7 @@ struct Counted {
 
 // Calls the writer.
 fn write_into(
+    to: &mut impl Write,
     g: Counted,
     letters: &[u8],
     lengths: &[u32],
@@ -103,56 +115,101 @@ fn write_into(
     paths: &[u32],
     counts: &[u32],
     out: &mut [u8],
-) {
+) -> io::Result<()> {
     let answer = write_graph(g.n, g.m, g.k, letters, lengths, edges, paths, counts, out);
-    tell(answer.number, answer.file, answer.place, answer.bytes, out);
+    tell(
+        to,
+        answer.number,
+        answer.file,
+        answer.place,
+        answer.bytes,
+        out,
+    )
 }
 
 fn with_room(
+    to: &mut impl Write,
     g: Counted,
     letters: &[u8],
     lengths: &[u32],
     edges: &[u32],
     paths: &[u32],
     counts: &[u32],
-) {
+) -> io::Result<()> {
     let mut out = out_room();
     let room = kept_of(&out, g.room);
-    write_into(g, letters, lengths, edges, paths, counts, &mut out[..room]);
+    write_into(
+        to,
+        g,
+        letters,
+        lengths,
+        edges,
+        paths,
+        counts,
+        &mut out[..room],
+    )
 }
 
-fn with_counts(g: Counted, letters: &[u8], lengths: &[u32], edges: &[u32], paths: &[u32]) {
+fn with_counts(
+    from: &mut impl Read,
+    to: &mut impl Write,
+    g: Counted,
+    letters: &[u8],
+    lengths: &[u32],
+    edges: &[u32],
+    paths: &[u32],
+) -> io::Result<()> {
     let mut counts = [0u32; 116];
-    let size = read_numbers(&mut counts);
-    with_room(g, letters, lengths, edges, paths, &counts[..size]);
+    let size = read_numbers(from, &mut counts)?;
+    with_room(to, g, letters, lengths, edges, paths, &counts[..size])
 }
 
-fn with_paths(g: Counted, letters: &[u8], lengths: &[u32], edges: &[u32]) {
+fn with_paths(
+    from: &mut impl Read,
+    to: &mut impl Write,
+    g: Counted,
+    letters: &[u8],
+    lengths: &[u32],
+    edges: &[u32],
+) -> io::Result<()> {
     let mut paths = [0u32; 16484];
-    let size = read_numbers(&mut paths);
-    with_counts(g, letters, lengths, edges, &paths[..size]);
+    let size = read_numbers(from, &mut paths)?;
+    with_counts(from, to, g, letters, lengths, edges, &paths[..size])
 }
 
-fn with_edges(g: Counted, letters: &[u8], lengths: &[u32]) {
+fn with_edges(
+    from: &mut impl Read,
+    to: &mut impl Write,
+    g: Counted,
+    letters: &[u8],
+    lengths: &[u32],
+) -> io::Result<()> {
     let mut edges = [0u32; 8292];
-    let size = read_numbers(&mut edges);
-    with_paths(g, letters, lengths, &edges[..size]);
+    let size = read_numbers(from, &mut edges)?;
+    with_paths(from, to, g, letters, lengths, &edges[..size])
 }
 
-fn with_lengths(g: Counted, letters: &[u8]) {
+fn with_lengths(
+    from: &mut impl Read,
+    to: &mut impl Write,
+    g: Counted,
+    letters: &[u8],
+) -> io::Result<()> {
     let mut lengths = [0u32; 1124];
-    let size = read_numbers(&mut lengths);
-    with_edges(g, letters, &lengths[..size]);
+    let size = read_numbers(from, &mut lengths)?;
+    with_edges(from, to, g, letters, &lengths[..size])
 }
 
-fn answer_graph() {
-    let room = read_number();
-    let n = read_number();
-    let m = read_number();
-    let k = read_number();
+fn answer_graph(from: &mut impl Read, to: &mut impl Write) -> io::Result<()> {
+    let room = read_number(from)?;
+    let n = read_number(from)?;
+    let m = read_number(from)?;
+    let k = read_number(from)?;
     let mut letters = letter_room();
-    let size = read_letters(&mut letters);
+    let size = read_letters(from, &mut letters)?;
     with_lengths(
+        from,
+        to,
         Counted {
             room: room,
             n: n,
@@ -160,66 +217,103 @@ fn answer_graph() {
             k: k,
         },
         &letters[..size],
-    );
+    )
 }
 
 // ---- the anchor writer: the same
 
-fn write_over(r: u32, n: u32, letters: &[u8], anchors: &[u32], graph: &[u8], out: &mut [u8]) {
+fn write_over(
+    to: &mut impl Write,
+    r: u32,
+    n: u32,
+    letters: &[u8],
+    anchors: &[u32],
+    graph: &[u8],
+    out: &mut [u8],
+) -> io::Result<()> {
     let answer = write_anchors(r, n, letters, anchors, graph, out);
-    tell(answer.number, answer.file, answer.place, answer.bytes, out);
+    tell(
+        to,
+        answer.number,
+        answer.file,
+        answer.place,
+        answer.bytes,
+        out,
+    )
 }
 
-fn over_room(room: u32, r: u32, n: u32, letters: &[u8], anchors: &[u32], graph: &[u8]) {
+fn over_room(
+    to: &mut impl Write,
+    room: u32,
+    r: u32,
+    n: u32,
+    letters: &[u8],
+    anchors: &[u32],
+    graph: &[u8],
+) -> io::Result<()> {
     let mut out = out_room();
     let size = kept_of(&out, room);
-    write_over(r, n, letters, anchors, graph, &mut out[..size]);
+    write_over(to, r, n, letters, anchors, graph, &mut out[..size])
 }
 
-fn over_anchors(room: u32, r: u32, n: u32, letters: &[u8], graph: &[u8]) {
+fn over_anchors(
+    from: &mut impl Read,
+    to: &mut impl Write,
+    room: u32,
+    r: u32,
+    n: u32,
+    letters: &[u8],
+    graph: &[u8],
+) -> io::Result<()> {
     let mut anchors = [0u32; 10340];
-    let size = read_numbers(&mut anchors);
-    over_room(room, r, n, letters, &anchors[..size], graph);
+    let size = read_numbers(from, &mut anchors)?;
+    over_room(to, room, r, n, letters, &anchors[..size], graph)
 }
 
-fn over_graph(room: u32, graph: &[u8]) {
-    let r = read_number();
-    let n = read_number();
+fn over_graph(
+    from: &mut impl Read,
+    to: &mut impl Write,
+    room: u32,
+    graph: &[u8],
+) -> io::Result<()> {
+    let r = read_number(from)?;
+    let n = read_number(from)?;
     let mut letters = letter_room();
-    let size = read_letters(&mut letters);
-    over_anchors(room, r, n, &letters[..size], graph);
+    let size = read_letters(from, &mut letters)?;
+    over_anchors(from, to, room, r, n, &letters[..size], graph)
 }
 
-fn answer_anchors() {
-    let room = read_number();
+fn answer_anchors(from: &mut impl Read, to: &mut impl Write) -> io::Result<()> {
+    let room = read_number(from)?;
     let mut graph = file_room();
-    let size = read_file(&mut graph);
-    over_graph(room, &graph[..size]);
+    let size = read_file(from, &mut graph)?;
+    over_graph(from, to, room, &graph[..size])
 }
 
 // ---- the records
 
 // Reads one record and answers it; false at the end.
-fn answer_next() -> bool {
-    let kind = read_kind();
+fn answer_next(from: &mut impl Read, to: &mut impl Write) -> io::Result<bool> {
+    let kind = read_kind(from)?;
     if kind == 0 {
-        return false;
+        return Ok(false);
     }
     if kind == 1 {
-        answer_graph();
+        answer_graph(from, to)?;
     } else {
-        answer_anchors();
+        answer_anchors(from, to)?;
     }
-    true
+    Ok(true)
 }
 
 // Answers record after record: at most 1,000,000, so that it ends on any input.
-fn main() {
-    let mut left: u32 = 1000000;
-    while 0 < left {
-        if !answer_next() {
-            return;
+fn main(rt: HostRuntime) -> io::Result<()> {
+    let mut from = BufReader::new(rt.alloc(), rt.stdin())?;
+    let mut to = BufWriter::new(rt.alloc(), rt.stdout())?;
+    for _ in 0..1000000 {
+        if !answer_next(&mut from, &mut to)? {
+            break;
         }
-        left -= 1;
     }
+    to.flush()
 }

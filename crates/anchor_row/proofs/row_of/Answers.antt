@@ -14,13 +14,13 @@ rows : (v x c s : ℕ) {y1 y2 d1 d2 : ℕ} → y1 ≡ y2 → d1 ≡ d2 → ◌�
 rows v x c s e f = λ i. v ∷ x ∷ e i ∷ c ∷ f i ∷ s ∷ []
 
 pub overflow_cast-result : goal.overflow_cast-result
-overflow_cast-result c = record { fits = wider (c.type_inv.anchors (per_anchor * (c.args.number - 1))).fits }
+overflow_cast-result c = record { fits = wider (c.type_inv.numbers (per_anchor * (c.args.number - 1))).fits }
 
 pub overflow_cast-result-2 : goal.overflow_cast-result-2
-overflow_cast-result-2 c = record { fits = wider (c.type_inv.anchors (per_anchor * (c.args.number - 1) + 1)).fits }
+overflow_cast-result-2 c = record { fits = wider (c.type_inv.numbers (per_anchor * (c.args.number - 1) + 1)).fits }
 
 pub overflow_cast-result-3 : goal.overflow_cast-result-3
-overflow_cast-result-3 c = record { fits = wider (c.type_inv.anchors (per_anchor * (c.args.number - 1) + 2)).fits }
+overflow_cast-result-3 c = record { fits = wider (c.type_inv.numbers (per_anchor * (c.args.number - 1) + 2)).fits }
 
 pub overflow_cast-result-4 : goal.overflow_cast-result-4
 overflow_cast-result-4 c = record { fits = wider (c.type_inv.scores (c.args.number - 1)).fits }

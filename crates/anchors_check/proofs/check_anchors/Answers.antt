@@ -24,14 +24,14 @@ label_places-requires c =
     graph-told c.args.graph.now (sym c.check_graph-first.ensures ∙ c.in-Accepted.is) in
     let t = told in
     let k = few-vertices c.args.graph.now _ _ t.labels in
-    record { labels_at_lem = t.labels; n_in_bounds = (omega (arith, ap length c.label_table-starts.ensures ∙ length-zeros full_lengths), omega (arith, ap length c.label_table-lengths.ensures ∙ length-zeros full_lengths)) }
+    record { labels_at = t.labels; n_in_bounds = (omega (arith, ap length c.label_table-starts.ensures ∙ length-zeros full_lengths), omega (arith, ap length c.label_table-lengths.ensures ∙ length-zeros full_lengths)) }
 
 pub check_over-second-requires : goal.check_over-second-requires
 check_over-second-requires c =
     let told : GraphTold c.args.graph.now c.in-Accepted.g =
     graph-told c.args.graph.now (sym c.check_graph-first.ensures ∙ c.in-Accepted.is) in
     let e = c.label_places.ensures in
-    tables-made c.args.graph.now _ _ _ _ _ _ (told).labels e.0 e.1
+    tables-made c.args.graph.now _ _ _ _ _ _ told.labels e.0 e.1
 
 pub returns-in_default-second : goal.returns-in_default-second
 returns-in_default-second c =
@@ -41,7 +41,7 @@ returns-in_default-second c =
     let f = c.in_default-second.is in
     c.anchor_file_refused.ensures
     ∙ ap anchor_file_refused f
-    ∙ sym (ap checked_both_of (both-anchors a.graph.now a.file.now (told).labels.accepted (sym c.check_over-second.ensures ∙ f)))
+    ∙ sym (ap checked_both_of (both-anchors a.graph.now a.file.now told.labels.accepted (sym c.check_over-second.ensures ∙ f)))
 
 pub returns : goal.returns
 returns c =

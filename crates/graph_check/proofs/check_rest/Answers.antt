@@ -14,11 +14,14 @@ returns-in_default c =
 
 pub check_paths-paths-requires : goal.check_paths-paths-requires
 check_paths-paths-requires c =
-    let a = c.args in  record { has_edges = head-edges c.args.file.now
+    let a = c.args in record {
+      has_edges = head-edges c.args.file.now
           c.args.head
-          c.requires; marks = marks_start c.no_marks-flags.result a.head.n
+          c.requires;
+      marks = marks_start c.no_marks-flags.result a.head.n
           c.no_marks-flags.ensures (head_few c.args.file.now
-          c.args.head c.requires) }
+          c.args.head c.requires);
+    }
 
 pub returns-in_default-paths : goal.returns-in_default-paths
 returns-in_default-paths c =

@@ -24,14 +24,14 @@ returns-then-not-roomy c =
 pub content_fault-fault-requires : goal.content_fault-fault-requires
 content_fault-fault-requires c =
     let full : room_for (length c.args.letters.now) (length c.args.lengths.now) (length c.args.edges.now) (length c.args.paths.now) (length c.args.counts.now) ≡ true =
-        sym c.roomy.ensures ∙ c.if-not-roomy.false in
+    sym c.roomy.ensures ∙ c.if-not-roomy.false in
     sizes_full (given_of c.args.n c.args.m c.args.k c.args.letters.now c.args.lengths.now c.args.edges.now c.args.paths.now c.args.counts.now) full
 
 -- src/lib.rt:196:9
 pub returns-then-fault-ne0 : goal.returns-then-fault-ne0
 returns-then-fault-ne0 c =
     let full : room_for (length c.args.letters.now) (length c.args.lengths.now) (length c.args.edges.now) (length c.args.paths.now) (length c.args.counts.now) ≡ true =
-        sym c.roomy.ensures ∙ c.if-not-roomy.false in
+    sym c.roomy.ensures ∙ c.if-not-roomy.false in
     let s = (given_of c.args.n c.args.m c.args.k c.args.letters.now c.args.lengths.now c.args.edges.now c.args.paths.now c.args.counts.now) in
     let n = length c.args.out.now in
     written_not s n _ _ _ _ _ (reply-fault s n full c.content_fault-fault.result c.content_fault-fault.ensures (λ z. omega arith)) c.refusal-then-fault-ne0.ensures
@@ -40,9 +40,9 @@ returns-then-fault-ne0 c =
 pub graph_size-bytes-requires : goal.graph_size-bytes-requires
 graph_size-bytes-requires c =
     let full : room_for (length c.args.letters.now) (length c.args.lengths.now) (length c.args.edges.now) (length c.args.paths.now) (length c.args.counts.now) ≡ true =
-        sym c.roomy.ensures ∙ c.if-not-roomy.false in
+    sym c.roomy.ensures ∙ c.if-not-roomy.false in
     let none : refusal_number (graph_given (given_of c.args.n c.args.m c.args.k c.args.letters.now c.args.lengths.now c.args.edges.now c.args.paths.now c.args.counts.now)) ≡ 0 =
-        let z : c.content_fault-fault.result ≡ 0 = omega arith in
+    let z : c.content_fault-fault.result ≡ 0 = omega arith in
     sym c.content_fault-fault.ensures ∙ z in
     record { full = sizes_full (given_of c.args.n c.args.m c.args.k c.args.letters.now c.args.lengths.now c.args.edges.now c.args.paths.now c.args.counts.now) full; counts_value = none }
 
@@ -50,9 +50,9 @@ graph_size-bytes-requires c =
 pub returns-then-bytes-gt-MOST_FILE_BYTES : goal.returns-then-bytes-gt-MOST_FILE_BYTES
 returns-then-bytes-gt-MOST_FILE_BYTES c =
     let full : room_for (length c.args.letters.now) (length c.args.lengths.now) (length c.args.edges.now) (length c.args.paths.now) (length c.args.counts.now) ≡ true =
-        sym c.roomy.ensures ∙ c.if-not-roomy.false in
+    sym c.roomy.ensures ∙ c.if-not-roomy.false in
     let none : refusal_number (graph_given (given_of c.args.n c.args.m c.args.k c.args.letters.now c.args.lengths.now c.args.edges.now c.args.paths.now c.args.counts.now)) ≡ 0 =
-        let z : c.content_fault-fault.result ≡ 0 = omega arith in
+    let z : c.content_fault-fault.result ≡ 0 = omega arith in
     sym c.content_fault-fault.ensures ∙ z in
     let s = (given_of c.args.n c.args.m c.args.k c.args.letters.now c.args.lengths.now c.args.edges.now c.args.paths.now c.args.counts.now) in
     let n = length c.args.out.now in
@@ -62,9 +62,9 @@ returns-then-bytes-gt-MOST_FILE_BYTES c =
 pub returns-then-out-bytes : goal.returns-then-out-bytes
 returns-then-out-bytes c =
     let full : room_for (length c.args.letters.now) (length c.args.lengths.now) (length c.args.edges.now) (length c.args.paths.now) (length c.args.counts.now) ≡ true =
-        sym c.roomy.ensures ∙ c.if-not-roomy.false in
+    sym c.roomy.ensures ∙ c.if-not-roomy.false in
     let none : refusal_number (graph_given (given_of c.args.n c.args.m c.args.k c.args.letters.now c.args.lengths.now c.args.edges.now c.args.paths.now c.args.counts.now)) ≡ 0 =
-        let z : c.content_fault-fault.result ≡ 0 = omega arith in
+    let z : c.content_fault-fault.result ≡ 0 = omega arith in
     sym c.content_fault-fault.ensures ∙ z in
     let s = (given_of c.args.n c.args.m c.args.k c.args.letters.now c.args.lengths.now c.args.edges.now c.args.paths.now c.args.counts.now) in
     let n = length c.args.out.now in
@@ -74,9 +74,9 @@ returns-then-out-bytes c =
 pub put_graph-written-requires : goal.put_graph-written-requires
 put_graph-written-requires c =
     let full : room_for (length c.args.letters.now) (length c.args.lengths.now) (length c.args.edges.now) (length c.args.paths.now) (length c.args.counts.now) ≡ true =
-        sym c.roomy.ensures ∙ c.if-not-roomy.false in
+    sym c.roomy.ensures ∙ c.if-not-roomy.false in
     let none : refusal_number (graph_given (given_of c.args.n c.args.m c.args.k c.args.letters.now c.args.lengths.now c.args.edges.now c.args.paths.now c.args.counts.now)) ≡ 0 =
-        let z : c.content_fault-fault.result ≡ 0 = omega arith in
+    let z : c.content_fault-fault.result ≡ 0 = omega arith in
     sym c.content_fault-fault.ensures ∙ z in
     record { full = sizes_full (given_of c.args.n c.args.m c.args.k c.args.letters.now c.args.lengths.now c.args.edges.now c.args.paths.now c.args.counts.now) full; counts_value = none; counts_in_bounds = omega arith }
 
@@ -84,9 +84,9 @@ put_graph-written-requires c =
 pub returns : goal.returns
 returns c =
     let full : room_for (length c.args.letters.now) (length c.args.lengths.now) (length c.args.edges.now) (length c.args.paths.now) (length c.args.counts.now) ≡ true =
-        sym c.roomy.ensures ∙ c.if-not-roomy.false in
+    sym c.roomy.ensures ∙ c.if-not-roomy.false in
     let none : refusal_number (graph_given (given_of c.args.n c.args.m c.args.k c.args.letters.now c.args.lengths.now c.args.edges.now c.args.paths.now c.args.counts.now)) ≡ 0 =
-        let z : c.content_fault-fault.result ≡ 0 = omega arith in
+    let z : c.content_fault-fault.result ≡ 0 = omega arith in
     sym c.content_fault-fault.ensures ∙ z in
     let s = (given_of c.args.n c.args.m c.args.k c.args.letters.now c.args.lengths.now c.args.edges.now c.args.paths.now c.args.counts.now) in
     let n = length c.args.out.now in

@@ -57,10 +57,10 @@ returns-then-count-ne0 c =
 
 pub label_places-requires : goal.label_places-requires
 label_places-requires c =
-    let h = c.requires.labels_at_lem in
+    let h = c.requires.labels_at in
     let k = few-vertices c.args.graph.now _ _ h in
     record {
-      labels_at_lem = h;
+      labels_at = h;
       n_in_bounds = (
         omega (arith, ap length c.label_table-starts.ensures ∙ length-zeros full_lengths),
         omega (arith, ap length c.label_table-lengths.ensures ∙ length-zeros full_lengths),
@@ -71,7 +71,7 @@ pub each_fault-requires : goal.each_fault-requires
 each_fault-requires c =
     let e = c.label_places.ensures in
     record {
-      label_tables = tables-made c.args.graph.now _ _ _ _ _ _ c.requires.labels_at_lem e.0 e.1;
+      label_tables = tables-made c.args.graph.now _ _ _ _ _ _ c.requires.labels_at e.0 e.1;
       r_in_bounds = (
         omega (arith, few 1 most_read c.args.r c.range_fault-read.result c.range_fault-read.ensures c.if-read-ne0.false),
         omega (arith, few 0 most_anchors c.args.n c.range_fault-count.result c.range_fault-count.ensures c.if-count-ne0.false, c.wide-2.ensures),

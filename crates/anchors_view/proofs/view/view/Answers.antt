@@ -83,7 +83,7 @@ label_start-label-requires c =
     seen_five at-anchor _ (ap (λ (x : AnchorSections). x.anchors) told.3) (sym c.five_after-got.ensures ∙ c.in-Got.is) in
     let t = told in
     let v = five.vertex in
-    record { labels_at_lem = labels; le_v = (v.0, omega (arith, ap (λ (x : Sections). x.n) t.2, v.1)) }
+    record { labels_at = labels; le_v = (v.0, omega (arith, ap (λ (x : Sections). x.n) t.2, v.1)) }
 
 pub overflow_sub-start : goal.overflow_sub-start
 overflow_sub-start c =

@@ -19,43 +19,43 @@ loop-i-init c = (along-none _ _ c.requires, omega arith)
 pub slice_bounds-put_number-count : goal.slice_bounds-put_number-count
 slice_bounds-put_number-count c =
     let next : Along (encode_numbers c.args.numbers.now) ((encode (get_or c.args.numbers.now c.loop-i.i 0)) ++ (encode_numbers (drop (c.loop-i.i + 1) c.args.numbers.now))) c.args.out.now c.loop-i.out c.loop-i.at =
-        along_as _ (numbers-next c.args.numbers.now c.loop-i.i (omega arith)) c.loop-i.invariant.0 in
+    along_as _ (numbers-next c.args.numbers.now c.loop-i.i (omega arith)) c.loop-i.invariant.0 in
     let room : (c.loop-i.at + length (encode (get_or c.args.numbers.now c.loop-i.i 0)) ≤ length c.loop-i.out) × (length c.loop-i.out ≡ length c.args.out.now) =
-        (along-fits _ (encode (get_or c.args.numbers.now c.loop-i.i 0)) (encode_numbers (drop (c.loop-i.i + 1) c.args.numbers.now)) _ _ _ next, along-long next) in
+    (along-fits _ (encode (get_or c.args.numbers.now c.loop-i.i 0)) (encode_numbers (drop (c.loop-i.i + 1) c.args.numbers.now)) _ _ _ next, along-long next) in
     omega (arith, room)
 
 -- src/puts.rt:24:26
 pub slice_bounds-put_number-start : goal.slice_bounds-put_number-start
 slice_bounds-put_number-start c =
     let next : Along (encode_numbers c.args.numbers.now) ((encode (get_or c.args.numbers.now c.loop-i.i 0)) ++ (encode_numbers (drop (c.loop-i.i + 1) c.args.numbers.now))) c.args.out.now c.loop-i.out c.loop-i.at =
-        along_as _ (numbers-next c.args.numbers.now c.loop-i.i (omega arith)) c.loop-i.invariant.0 in
+    along_as _ (numbers-next c.args.numbers.now c.loop-i.i (omega arith)) c.loop-i.invariant.0 in
     let room : (c.loop-i.at + length (encode (get_or c.args.numbers.now c.loop-i.i 0)) ≤ length c.loop-i.out) × (length c.loop-i.out ≡ length c.args.out.now) =
-        (along-fits _ (encode (get_or c.args.numbers.now c.loop-i.i 0)) (encode_numbers (drop (c.loop-i.i + 1) c.args.numbers.now)) _ _ _ next, along-long next) in
+    (along-fits _ (encode (get_or c.args.numbers.now c.loop-i.i 0)) (encode_numbers (drop (c.loop-i.i + 1) c.args.numbers.now)) _ _ _ next, along-long next) in
     omega (arith, room)
 
 -- src/puts.rt:24:15
 pub put_number-at-requires : goal.put_number-at-requires
 put_number-at-requires c =
     let next : Along (encode_numbers c.args.numbers.now) ((encode (get_or c.args.numbers.now c.loop-i.i 0)) ++ (encode_numbers (drop (c.loop-i.i + 1) c.args.numbers.now))) c.args.out.now c.loop-i.out c.loop-i.at =
-        along_as _ (numbers-next c.args.numbers.now c.loop-i.i (omega arith)) c.loop-i.invariant.0 in
+    along_as _ (numbers-next c.args.numbers.now c.loop-i.i (omega arith)) c.loop-i.invariant.0 in
     let room : (c.loop-i.at + length (encode (get_or c.args.numbers.now c.loop-i.i 0)) ≤ length c.loop-i.out) × (length c.loop-i.out ≡ length c.args.out.now) =
-        (along-fits _ (encode (get_or c.args.numbers.now c.loop-i.i 0)) (encode_numbers (drop (c.loop-i.i + 1) c.args.numbers.now)) _ _ _ next, along-long next) in
+    (along-fits _ (encode (get_or c.args.numbers.now c.loop-i.i 0)) (encode_numbers (drop (c.loop-i.i + 1) c.args.numbers.now)) _ _ _ next, along-long next) in
     rw (rest_part, length-drop) (omega (arith, room))
 
 -- src/puts.rt:24:9
 pub overflow_add-at : goal.overflow_add-at
 overflow_add-at c =
     let next : Along (encode_numbers c.args.numbers.now) ((encode (get_or c.args.numbers.now c.loop-i.i 0)) ++ (encode_numbers (drop (c.loop-i.i + 1) c.args.numbers.now))) c.args.out.now c.loop-i.out c.loop-i.at =
-        along_as _ (numbers-next c.args.numbers.now c.loop-i.i (omega arith)) c.loop-i.invariant.0 in
+    along_as _ (numbers-next c.args.numbers.now c.loop-i.i (omega arith)) c.loop-i.invariant.0 in
     let room : (c.loop-i.at + length (encode (get_or c.args.numbers.now c.loop-i.i 0)) ≤ length c.loop-i.out) × (length c.loop-i.out ≡ length c.args.out.now) =
-        (along-fits _ (encode (get_or c.args.numbers.now c.loop-i.i 0)) (encode_numbers (drop (c.loop-i.i + 1) c.args.numbers.now)) _ _ _ next, along-long next) in
+    (along-fits _ (encode (get_or c.args.numbers.now c.loop-i.i 0)) (encode_numbers (drop (c.loop-i.i + 1) c.args.numbers.now)) _ _ _ next, along-long next) in
     omega (arith, room)
 
 -- src/puts.rt:23:5
 pub loop-i-preserved : goal.loop-i-preserved
 loop-i-preserved c =
     let next : Along (encode_numbers c.args.numbers.now) ((encode (get_or c.args.numbers.now c.loop-i.i 0)) ++ (encode_numbers (drop (c.loop-i.i + 1) c.args.numbers.now))) c.args.out.now c.loop-i.out c.loop-i.at =
-        along_as _ (numbers-next c.args.numbers.now c.loop-i.i (omega arith)) c.loop-i.invariant.0 in
+    along_as _ (numbers-next c.args.numbers.now c.loop-i.i (omega arith)) c.loop-i.invariant.0 in
     let l = c.loop-i in
     (along-more _ (encode (get_or c.args.numbers.now l.i 0)) _ _ l.out c.put_number-at.new.out l.at c.put_number-at.result next c.put_number-at.ensures.0 c.put_number-at.ensures.1, omega arith)
 

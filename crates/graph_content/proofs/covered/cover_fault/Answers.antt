@@ -13,7 +13,7 @@ use Rattle.graph_content.proofs.covered.cover_fault.Goals as goal
 -- src/cover.rt:57:5
 pub mark_paths-requires : goal.mark_paths-requires
 mark_paths-requires c =
-    let a = c.args in  record { k_le_most_paths = (omega arith, omega arith, omega arith); roomed = (c.requires.roomed.0, subst (λ (l : ℕ). Inside l a.k a.paths.now a.counts.now) (sym c.no_flags-flags.ensures.0) c.requires.roomed.1) }
+    let a = c.args in record { k_le_most_paths = (omega arith, omega arith, omega arith); roomed = (c.requires.roomed.0, subst (λ (l : ℕ). Inside l a.k a.paths.now a.counts.now) (sym c.no_flags-flags.ensures.0) c.requires.roomed.1) }
 
 -- src/cover.rt:51:1
 pub returns-then-all_marked : goal.returns-then-all_marked

@@ -37,8 +37,8 @@ loop-i-preserved c =
     let a = c.args in (
       onward-path a.flags.now (is_on_any (paths_in a.k 0 a.paths.now a.counts.now)) l.flags c.mark_path.new.flags a.k l.i a.paths.now a.counts.now (omega arith) l.invariant.0
           (subst (λ (t : List ℕ). Flagged l.flags c.mark_path.new.flags (is_on t)) (let told : take (path_room * c.loop-i.i + c.wide.result - path_room * c.loop-i.i) (drop (path_room * c.loop-i.i) c.args.paths.now)
-    ≡ numbers_in (get_or c.args.counts.now c.loop-i.i 0) (path_room * c.loop-i.i) c.args.paths.now = let r = c.requires.roomed.0 c.loop-i.i (omega arith) in
-    numbers_between (path_room * c.loop-i.i) (path_room * c.loop-i.i + c.wide.result) (get_or c.args.counts.now c.loop-i.i 0) c.args.paths.now (omega arith) (omega arith) in told) c.mark_path.ensures),
+          ≡ numbers_in (get_or c.args.counts.now c.loop-i.i 0) (path_room * c.loop-i.i) c.args.paths.now = let r = c.requires.roomed.0 c.loop-i.i (omega arith) in
+          numbers_between (path_room * c.loop-i.i) (path_room * c.loop-i.i + c.wide.result) (get_or c.args.counts.now c.loop-i.i 0) c.args.paths.now (omega arith) (omega arith) in told) c.mark_path.ensures),
       omega arith,
     )
 

@@ -26,7 +26,7 @@ returns-then-fault-ne0 c =
 pub overflow_add-end : goal.overflow_add-end
 overflow_add-end c =
     let fits : (1 ≤ get_or c.args.counts.now c.loop-i.i 0) × (get_or c.args.counts.now c.loop-i.i 0 ≤ c.args.n) =
-        let n = get_or c.args.counts.now c.loop-i.i 0 in
+    let n = get_or c.args.counts.now c.loop-i.i 0 in
     let z : c.range_fault-fault.result ≡ 0 = omega arith in
     within 1 n n c.args.n (sym c.range_fault-fault.ensures ∙ z) in
     omega (arith, fits)
@@ -35,11 +35,11 @@ overflow_add-end c =
 pub vertices_fault-vertex-requires : goal.vertices_fault-vertex-requires
 vertices_fault-vertex-requires c =
     let fits : (1 ≤ get_or c.args.counts.now c.loop-i.i 0) × (get_or c.args.counts.now c.loop-i.i 0 ≤ c.args.n) =
-        let n = get_or c.args.counts.now c.loop-i.i 0 in
+    let n = get_or c.args.counts.now c.loop-i.i 0 in
     let z : c.range_fault-fault.result ≡ 0 = omega arith in
     within 1 n n c.args.n (sym c.range_fault-fault.ensures ∙ z) in
     let f = fits in
-     record { m_le_most_edges = c.requires.m_le_most_edges; start_lt_end = (omega arith, omega arith) }
+    record { m_le_most_edges = c.requires.m_le_most_edges; start_lt_end = (omega arith, omega arith) }
 
 -- src/content.rt:152:13
 pub returns-then-vertex-ne0 : goal.returns-then-vertex-ne0
@@ -47,12 +47,12 @@ returns-then-vertex-ne0 c =
     let upto : paths_fault c.args.n (edges_in c.args.m 0 c.args.edges.now) c.args.k 0 c.args.paths.now c.args.counts.now
     ≡ first (vertices_fault c.args.n (edges_in c.args.m 0 c.args.edges.now) (get_or c.args.counts.now c.loop-i.i 0) (path_room * c.loop-i.i) 0 c.args.paths.now)
     (paths_fault c.args.n (edges_in c.args.m 0 c.args.edges.now) (c.args.k - (c.loop-i.i + 1)) (c.loop-i.i + 1) c.args.paths.now c.args.counts.now) =
-        let l = c.loop-i in
+    let l = c.loop-i in
     let a = c.args in
     l.invariant ∙ paths-step a.n (edges_in a.m 0 a.edges.now) a.k l.i a.paths.now a.counts.now (omega arith) ∙ first-none c.range_fault-fault.result _ _ c.range_fault-fault.ensures (omega arith) in
     let told : c.vertices_fault-vertex.result
     ≡ vertices_fault c.args.n (edges_in c.args.m 0 c.args.edges.now) (get_or c.args.counts.now c.loop-i.i 0) (path_room * c.loop-i.i) 0 c.args.paths.now =
-        let a = c.args in
+    let a = c.args in
     let l = c.loop-i in
     c.vertices_fault-vertex.ensures
     ∙ ap (λ (d : ℕ). vertices_fault a.n (edges_in a.m 0 a.edges.now) d (path_room * l.i) 0 a.paths.now) (omega (arith, c.wide.ensures)) in
@@ -64,12 +64,12 @@ loop-i-preserved c =
     let upto : paths_fault c.args.n (edges_in c.args.m 0 c.args.edges.now) c.args.k 0 c.args.paths.now c.args.counts.now
     ≡ first (vertices_fault c.args.n (edges_in c.args.m 0 c.args.edges.now) (get_or c.args.counts.now c.loop-i.i 0) (path_room * c.loop-i.i) 0 c.args.paths.now)
     (paths_fault c.args.n (edges_in c.args.m 0 c.args.edges.now) (c.args.k - (c.loop-i.i + 1)) (c.loop-i.i + 1) c.args.paths.now c.args.counts.now) =
-        let l = c.loop-i in
+    let l = c.loop-i in
     let a = c.args in
     l.invariant ∙ paths-step a.n (edges_in a.m 0 a.edges.now) a.k l.i a.paths.now a.counts.now (omega arith) ∙ first-none c.range_fault-fault.result _ _ c.range_fault-fault.ensures (omega arith) in
     let told : c.vertices_fault-vertex.result
     ≡ vertices_fault c.args.n (edges_in c.args.m 0 c.args.edges.now) (get_or c.args.counts.now c.loop-i.i 0) (path_room * c.loop-i.i) 0 c.args.paths.now =
-        let a = c.args in
+    let a = c.args in
     let l = c.loop-i in
     c.vertices_fault-vertex.ensures
     ∙ ap (λ (d : ℕ). vertices_fault a.n (edges_in a.m 0 a.edges.now) d (path_room * l.i) 0 a.paths.now) (omega (arith, c.wide.ensures)) in

@@ -34,14 +34,14 @@ loop-i-init c =
 pub slice_bounds-put_number-count : goal.slice_bounds-put_number-count
 slice_bounds-put_number-count c =
     let next : Along (encode_labels (labels_in c.args.n 0 0 c.args.letters.now c.args.lengths.now)) (encode (get_or c.args.lengths.now c.loop-i.i 0) ++ ((numbers_in (get_or c.args.lengths.now c.loop-i.i 0) c.loop-i.sum c.args.letters.now) ++ (encode_labels (labels_in (c.args.n - (c.loop-i.i + 1)) (c.loop-i.i + 1) (c.loop-i.sum + (get_or c.args.lengths.now c.loop-i.i 0)) c.args.letters.now c.args.lengths.now)))) c.args.out.now c.loop-i.out c.loop-i.at =
-        along_as _ (labels_next c.args.letters.now c.args.lengths.now c.args.n c.loop-i.i c.loop-i.sum (omega arith)) c.loop-i.invariant.0 in
+    along_as _ (labels_next c.args.letters.now c.args.lengths.now c.args.n c.loop-i.i c.loop-i.sum (omega arith)) c.loop-i.invariant.0 in
     along-within next
 
 -- src/puts.rt:42:26
 pub slice_bounds-put_number-start : goal.slice_bounds-put_number-start
 slice_bounds-put_number-start c =
     let next : Along (encode_labels (labels_in c.args.n 0 0 c.args.letters.now c.args.lengths.now)) (encode (get_or c.args.lengths.now c.loop-i.i 0) ++ ((numbers_in (get_or c.args.lengths.now c.loop-i.i 0) c.loop-i.sum c.args.letters.now) ++ (encode_labels (labels_in (c.args.n - (c.loop-i.i + 1)) (c.loop-i.i + 1) (c.loop-i.sum + (get_or c.args.lengths.now c.loop-i.i 0)) c.args.letters.now c.args.lengths.now)))) c.args.out.now c.loop-i.out c.loop-i.at =
-        along_as _ (labels_next c.args.letters.now c.args.lengths.now c.args.n c.loop-i.i c.loop-i.sum (omega arith)) c.loop-i.invariant.0 in
+    along_as _ (labels_next c.args.letters.now c.args.lengths.now c.args.n c.loop-i.i c.loop-i.sum (omega arith)) c.loop-i.invariant.0 in
     along-within next
 
 -- src/puts.rt:42:26
@@ -52,20 +52,20 @@ slice_bounds-put_number-end c = le_refl _
 pub put_number-at-requires : goal.put_number-at-requires
 put_number-at-requires c =
     let next : Along (encode_labels (labels_in c.args.n 0 0 c.args.letters.now c.args.lengths.now)) (encode (get_or c.args.lengths.now c.loop-i.i 0) ++ ((numbers_in (get_or c.args.lengths.now c.loop-i.i 0) c.loop-i.sum c.args.letters.now) ++ (encode_labels (labels_in (c.args.n - (c.loop-i.i + 1)) (c.loop-i.i + 1) (c.loop-i.sum + (get_or c.args.lengths.now c.loop-i.i 0)) c.args.letters.now c.args.lengths.now)))) c.args.out.now c.loop-i.out c.loop-i.at =
-        along_as _ (labels_next c.args.letters.now c.args.lengths.now c.args.n c.loop-i.i c.loop-i.sum (omega arith)) c.loop-i.invariant.0 in
+    along_as _ (labels_next c.args.letters.now c.args.lengths.now c.args.n c.loop-i.i c.loop-i.sum (omega arith)) c.loop-i.invariant.0 in
     let lent : length (encode (get_or c.args.lengths.now c.loop-i.i 0)) ≤ length (mid_of c.loop-i.at (length c.loop-i.out - c.loop-i.at) c.loop-i.out) =
-        along_lent _ (encode (get_or c.args.lengths.now c.loop-i.i 0)) ((numbers_in (get_or c.args.lengths.now c.loop-i.i 0) c.loop-i.sum c.args.letters.now) ++ (encode_labels (labels_in (c.args.n - (c.loop-i.i + 1)) (c.loop-i.i + 1) (c.loop-i.sum + (get_or c.args.lengths.now c.loop-i.i 0)) c.args.letters.now c.args.lengths.now))) _ _ _ next in
+    along_lent _ (encode (get_or c.args.lengths.now c.loop-i.i 0)) ((numbers_in (get_or c.args.lengths.now c.loop-i.i 0) c.loop-i.sum c.args.letters.now) ++ (encode_labels (labels_in (c.args.n - (c.loop-i.i + 1)) (c.loop-i.i + 1) (c.loop-i.sum + (get_or c.args.lengths.now c.loop-i.i 0)) c.args.letters.now c.args.lengths.now))) _ _ _ next in
     lent
 
 -- src/puts.rt:42:9
 pub overflow_add-at : goal.overflow_add-at
 overflow_add-at c =
     let next : Along (encode_labels (labels_in c.args.n 0 0 c.args.letters.now c.args.lengths.now)) (encode (get_or c.args.lengths.now c.loop-i.i 0) ++ ((numbers_in (get_or c.args.lengths.now c.loop-i.i 0) c.loop-i.sum c.args.letters.now) ++ (encode_labels (labels_in (c.args.n - (c.loop-i.i + 1)) (c.loop-i.i + 1) (c.loop-i.sum + (get_or c.args.lengths.now c.loop-i.i 0)) c.args.letters.now c.args.lengths.now)))) c.args.out.now c.loop-i.out c.loop-i.at =
-        along_as _ (labels_next c.args.letters.now c.args.lengths.now c.args.n c.loop-i.i c.loop-i.sum (omega arith)) c.loop-i.invariant.0 in
+    along_as _ (labels_next c.args.letters.now c.args.lengths.now c.args.n c.loop-i.i c.loop-i.sum (omega arith)) c.loop-i.invariant.0 in
     let fits : length c.args.out.now < 2 ^ 64 =
-        omega arith in
+    omega arith in
     let place : (n : ℕ) → n ≡ length (encode (get_or c.args.lengths.now c.loop-i.i 0)) → Fits w64 (c.loop-i.at + n) =
-        λ n e. along-place _ (encode (get_or c.args.lengths.now c.loop-i.i 0)) ((numbers_in (get_or c.args.lengths.now c.loop-i.i 0) c.loop-i.sum c.args.letters.now) ++ (encode_labels (labels_in (c.args.n - (c.loop-i.i + 1)) (c.loop-i.i + 1) (c.loop-i.sum + (get_or c.args.lengths.now c.loop-i.i 0)) c.args.letters.now c.args.lengths.now))) _ _ _ n next e fits in
+    λ n e. along-place _ (encode (get_or c.args.lengths.now c.loop-i.i 0)) ((numbers_in (get_or c.args.lengths.now c.loop-i.i 0) c.loop-i.sum c.args.letters.now) ++ (encode_labels (labels_in (c.args.n - (c.loop-i.i + 1)) (c.loop-i.i + 1) (c.loop-i.sum + (get_or c.args.lengths.now c.loop-i.i 0)) c.args.letters.now c.args.lengths.now))) _ _ _ n next e fits in
     place c.put_number-at.result c.put_number-at.ensures.0
 
 -- src/puts.rt:43:20
@@ -73,16 +73,16 @@ pub overflow_add-next : goal.overflow_add-next
 overflow_add-next c =
     let good : (c.loop-i.sum + (get_or c.args.lengths.now c.loop-i.i 0) ≤ most_letters)
     × (labels_fault (c.args.n - (c.loop-i.i + 1)) (c.loop-i.i + 1) (c.loop-i.sum + (get_or c.args.lengths.now c.loop-i.i 0)) c.args.letters.now c.args.lengths.now ≡ 0) =
-        labels-good c.args.letters.now c.args.lengths.now c.args.n c.loop-i.i c.loop-i.sum (omega arith) c.loop-i.invariant.1 in
+    labels-good c.args.letters.now c.args.lengths.now c.args.n c.loop-i.i c.loop-i.sum (omega arith) c.loop-i.invariant.1 in
     omega (arith, good)
 
 -- src/puts.rt:44:27
 pub slice_bounds-put_letters-count : goal.slice_bounds-put_letters-count
 slice_bounds-put_letters-count c =
     let next : Along (encode_labels (labels_in c.args.n 0 0 c.args.letters.now c.args.lengths.now)) (encode (get_or c.args.lengths.now c.loop-i.i 0) ++ ((numbers_in (get_or c.args.lengths.now c.loop-i.i 0) c.loop-i.sum c.args.letters.now) ++ (encode_labels (labels_in (c.args.n - (c.loop-i.i + 1)) (c.loop-i.i + 1) (c.loop-i.sum + (get_or c.args.lengths.now c.loop-i.i 0)) c.args.letters.now c.args.lengths.now)))) c.args.out.now c.loop-i.out c.loop-i.at =
-        along_as _ (labels_next c.args.letters.now c.args.lengths.now c.args.n c.loop-i.i c.loop-i.sum (omega arith)) c.loop-i.invariant.0 in
+    along_as _ (labels_next c.args.letters.now c.args.lengths.now c.args.n c.loop-i.i c.loop-i.sum (omega arith)) c.loop-i.invariant.0 in
     let after : Along (encode_labels (labels_in c.args.n 0 0 c.args.letters.now c.args.lengths.now)) ((numbers_in (get_or c.args.lengths.now c.loop-i.i 0) c.loop-i.sum c.args.letters.now) ++ (encode_labels (labels_in (c.args.n - (c.loop-i.i + 1)) (c.loop-i.i + 1) (c.loop-i.sum + (get_or c.args.lengths.now c.loop-i.i 0)) c.args.letters.now c.args.lengths.now))) c.args.out.now (put_mid c.loop-i.at (length c.loop-i.out - c.loop-i.at) c.loop-i.out c.put_number-at.new.out) (c.loop-i.at + c.put_number-at.result) =
-        let l = c.loop-i in
+    let l = c.loop-i in
     along-more _ (encode (get_or c.args.lengths.now c.loop-i.i 0)) _ _ l.out c.put_number-at.new.out l.at c.put_number-at.result next c.put_number-at.ensures.0 c.put_number-at.ensures.1 in
     along-within after
 
@@ -90,9 +90,9 @@ slice_bounds-put_letters-count c =
 pub slice_bounds-put_letters-start : goal.slice_bounds-put_letters-start
 slice_bounds-put_letters-start c =
     let next : Along (encode_labels (labels_in c.args.n 0 0 c.args.letters.now c.args.lengths.now)) (encode (get_or c.args.lengths.now c.loop-i.i 0) ++ ((numbers_in (get_or c.args.lengths.now c.loop-i.i 0) c.loop-i.sum c.args.letters.now) ++ (encode_labels (labels_in (c.args.n - (c.loop-i.i + 1)) (c.loop-i.i + 1) (c.loop-i.sum + (get_or c.args.lengths.now c.loop-i.i 0)) c.args.letters.now c.args.lengths.now)))) c.args.out.now c.loop-i.out c.loop-i.at =
-        along_as _ (labels_next c.args.letters.now c.args.lengths.now c.args.n c.loop-i.i c.loop-i.sum (omega arith)) c.loop-i.invariant.0 in
+    along_as _ (labels_next c.args.letters.now c.args.lengths.now c.args.n c.loop-i.i c.loop-i.sum (omega arith)) c.loop-i.invariant.0 in
     let after : Along (encode_labels (labels_in c.args.n 0 0 c.args.letters.now c.args.lengths.now)) ((numbers_in (get_or c.args.lengths.now c.loop-i.i 0) c.loop-i.sum c.args.letters.now) ++ (encode_labels (labels_in (c.args.n - (c.loop-i.i + 1)) (c.loop-i.i + 1) (c.loop-i.sum + (get_or c.args.lengths.now c.loop-i.i 0)) c.args.letters.now c.args.lengths.now))) c.args.out.now (put_mid c.loop-i.at (length c.loop-i.out - c.loop-i.at) c.loop-i.out c.put_number-at.new.out) (c.loop-i.at + c.put_number-at.result) =
-        let l = c.loop-i in
+    let l = c.loop-i in
     along-more _ (encode (get_or c.args.lengths.now c.loop-i.i 0)) _ _ l.out c.put_number-at.new.out l.at c.put_number-at.result next c.put_number-at.ensures.0 c.put_number-at.ensures.1 in
     along-within after
 
@@ -105,9 +105,9 @@ pub slice_bounds-put_letters-end-in-loop-i : goal.slice_bounds-put_letters-end-i
 slice_bounds-put_letters-end-in-loop-i c =
     let good : (c.loop-i.sum + (get_or c.args.lengths.now c.loop-i.i 0) ≤ most_letters)
     × (labels_fault (c.args.n - (c.loop-i.i + 1)) (c.loop-i.i + 1) (c.loop-i.sum + (get_or c.args.lengths.now c.loop-i.i 0)) c.args.letters.now c.args.lengths.now ≡ 0) =
-        labels-good c.args.letters.now c.args.lengths.now c.args.n c.loop-i.i c.loop-i.sum (omega arith) c.loop-i.invariant.1 in
+    labels-good c.args.letters.now c.args.lengths.now c.args.n c.loop-i.i c.loop-i.sum (omega arith) c.loop-i.invariant.1 in
     let ends : c.loop-i.sum + c.wide.result ≤ most_letters =
-        let g = good in omega arith in
+    let g = good in omega arith in
     omega (arith, ends)
 
 -- src/puts.rt:44:15
@@ -115,17 +115,17 @@ pub put_letters-at-requires : goal.put_letters-at-requires
 put_letters-at-requires c =
     let good : (c.loop-i.sum + (get_or c.args.lengths.now c.loop-i.i 0) ≤ most_letters)
     × (labels_fault (c.args.n - (c.loop-i.i + 1)) (c.loop-i.i + 1) (c.loop-i.sum + (get_or c.args.lengths.now c.loop-i.i 0)) c.args.letters.now c.args.lengths.now ≡ 0) =
-        labels-good c.args.letters.now c.args.lengths.now c.args.n c.loop-i.i c.loop-i.sum (omega arith) c.loop-i.invariant.1 in
+    labels-good c.args.letters.now c.args.lengths.now c.args.n c.loop-i.i c.loop-i.sum (omega arith) c.loop-i.invariant.1 in
     let part : take (c.loop-i.sum + c.wide.result - c.loop-i.sum) (drop c.loop-i.sum c.args.letters.now) ≡ (numbers_in (get_or c.args.lengths.now c.loop-i.i 0) c.loop-i.sum c.args.letters.now) =
-        let g = good in
+    let g = good in
     numbers_between c.loop-i.sum (c.loop-i.sum + c.wide.result) (get_or c.args.lengths.now c.loop-i.i 0) c.args.letters.now (omega arith) (omega arith) in
     let next : Along (encode_labels (labels_in c.args.n 0 0 c.args.letters.now c.args.lengths.now)) (encode (get_or c.args.lengths.now c.loop-i.i 0) ++ ((numbers_in (get_or c.args.lengths.now c.loop-i.i 0) c.loop-i.sum c.args.letters.now) ++ (encode_labels (labels_in (c.args.n - (c.loop-i.i + 1)) (c.loop-i.i + 1) (c.loop-i.sum + (get_or c.args.lengths.now c.loop-i.i 0)) c.args.letters.now c.args.lengths.now)))) c.args.out.now c.loop-i.out c.loop-i.at =
-        along_as _ (labels_next c.args.letters.now c.args.lengths.now c.args.n c.loop-i.i c.loop-i.sum (omega arith)) c.loop-i.invariant.0 in
+    along_as _ (labels_next c.args.letters.now c.args.lengths.now c.args.n c.loop-i.i c.loop-i.sum (omega arith)) c.loop-i.invariant.0 in
     let after : Along (encode_labels (labels_in c.args.n 0 0 c.args.letters.now c.args.lengths.now)) ((numbers_in (get_or c.args.lengths.now c.loop-i.i 0) c.loop-i.sum c.args.letters.now) ++ (encode_labels (labels_in (c.args.n - (c.loop-i.i + 1)) (c.loop-i.i + 1) (c.loop-i.sum + (get_or c.args.lengths.now c.loop-i.i 0)) c.args.letters.now c.args.lengths.now))) c.args.out.now (put_mid c.loop-i.at (length c.loop-i.out - c.loop-i.at) c.loop-i.out c.put_number-at.new.out) (c.loop-i.at + c.put_number-at.result) =
-        let l = c.loop-i in
+    let l = c.loop-i in
     along-more _ (encode (get_or c.args.lengths.now c.loop-i.i 0)) _ _ l.out c.put_number-at.new.out l.at c.put_number-at.result next c.put_number-at.ensures.0 c.put_number-at.ensures.1 in
     let lent2 : length (numbers_in (get_or c.args.lengths.now c.loop-i.i 0) c.loop-i.sum c.args.letters.now) ≤ length (mid_of (c.loop-i.at + c.put_number-at.result) (length (put_mid c.loop-i.at (length c.loop-i.out - c.loop-i.at) c.loop-i.out c.put_number-at.new.out) - (c.loop-i.at + c.put_number-at.result)) (put_mid c.loop-i.at (length c.loop-i.out - c.loop-i.at) c.loop-i.out c.put_number-at.new.out)) =
-        along_lent _ (numbers_in (get_or c.args.lengths.now c.loop-i.i 0) c.loop-i.sum c.args.letters.now) (encode_labels (labels_in (c.args.n - (c.loop-i.i + 1)) (c.loop-i.i + 1) (c.loop-i.sum + (get_or c.args.lengths.now c.loop-i.i 0)) c.args.letters.now c.args.lengths.now)) _ _ _ after in
+    along_lent _ (numbers_in (get_or c.args.lengths.now c.loop-i.i 0) c.loop-i.sum c.args.letters.now) (encode_labels (labels_in (c.args.n - (c.loop-i.i + 1)) (c.loop-i.i + 1) (c.loop-i.sum + (get_or c.args.lengths.now c.loop-i.i 0)) c.args.letters.now c.args.lengths.now)) _ _ _ after in
     subst (λ (t : List ℕ). length t ≤ length (mid_of (c.loop-i.at + c.put_number-at.result) (length (put_mid c.loop-i.at (length c.loop-i.out - c.loop-i.at) c.loop-i.out c.put_number-at.new.out) - (c.loop-i.at + c.put_number-at.result)) (put_mid c.loop-i.at (length c.loop-i.out - c.loop-i.at) c.loop-i.out c.put_number-at.new.out))) (sym part) lent2
 
 -- src/puts.rt:44:9
@@ -133,19 +133,19 @@ pub overflow_add-at-in-loop-i : goal.overflow_add-at-in-loop-i
 overflow_add-at-in-loop-i c =
     let good : (c.loop-i.sum + (get_or c.args.lengths.now c.loop-i.i 0) ≤ most_letters)
     × (labels_fault (c.args.n - (c.loop-i.i + 1)) (c.loop-i.i + 1) (c.loop-i.sum + (get_or c.args.lengths.now c.loop-i.i 0)) c.args.letters.now c.args.lengths.now ≡ 0) =
-        labels-good c.args.letters.now c.args.lengths.now c.args.n c.loop-i.i c.loop-i.sum (omega arith) c.loop-i.invariant.1 in
+    labels-good c.args.letters.now c.args.lengths.now c.args.n c.loop-i.i c.loop-i.sum (omega arith) c.loop-i.invariant.1 in
     let part : take (c.loop-i.sum + c.wide.result - c.loop-i.sum) (drop c.loop-i.sum c.args.letters.now) ≡ (numbers_in (get_or c.args.lengths.now c.loop-i.i 0) c.loop-i.sum c.args.letters.now) =
-        let g = good in
+    let g = good in
     numbers_between c.loop-i.sum (c.loop-i.sum + c.wide.result) (get_or c.args.lengths.now c.loop-i.i 0) c.args.letters.now (omega arith) (omega arith) in
     let fits : length c.args.out.now < 2 ^ 64 =
-        omega arith in
+    omega arith in
     let next : Along (encode_labels (labels_in c.args.n 0 0 c.args.letters.now c.args.lengths.now)) (encode (get_or c.args.lengths.now c.loop-i.i 0) ++ ((numbers_in (get_or c.args.lengths.now c.loop-i.i 0) c.loop-i.sum c.args.letters.now) ++ (encode_labels (labels_in (c.args.n - (c.loop-i.i + 1)) (c.loop-i.i + 1) (c.loop-i.sum + (get_or c.args.lengths.now c.loop-i.i 0)) c.args.letters.now c.args.lengths.now)))) c.args.out.now c.loop-i.out c.loop-i.at =
-        along_as _ (labels_next c.args.letters.now c.args.lengths.now c.args.n c.loop-i.i c.loop-i.sum (omega arith)) c.loop-i.invariant.0 in
+    along_as _ (labels_next c.args.letters.now c.args.lengths.now c.args.n c.loop-i.i c.loop-i.sum (omega arith)) c.loop-i.invariant.0 in
     let after : Along (encode_labels (labels_in c.args.n 0 0 c.args.letters.now c.args.lengths.now)) ((numbers_in (get_or c.args.lengths.now c.loop-i.i 0) c.loop-i.sum c.args.letters.now) ++ (encode_labels (labels_in (c.args.n - (c.loop-i.i + 1)) (c.loop-i.i + 1) (c.loop-i.sum + (get_or c.args.lengths.now c.loop-i.i 0)) c.args.letters.now c.args.lengths.now))) c.args.out.now (put_mid c.loop-i.at (length c.loop-i.out - c.loop-i.at) c.loop-i.out c.put_number-at.new.out) (c.loop-i.at + c.put_number-at.result) =
-        let l = c.loop-i in
+    let l = c.loop-i in
     along-more _ (encode (get_or c.args.lengths.now c.loop-i.i 0)) _ _ l.out c.put_number-at.new.out l.at c.put_number-at.result next c.put_number-at.ensures.0 c.put_number-at.ensures.1 in
     let place2 : (n : ℕ) → n ≡ length (numbers_in (get_or c.args.lengths.now c.loop-i.i 0) c.loop-i.sum c.args.letters.now) → Fits w64 ((c.loop-i.at + c.put_number-at.result) + n) =
-        λ n e. along-place _ (numbers_in (get_or c.args.lengths.now c.loop-i.i 0) c.loop-i.sum c.args.letters.now) (encode_labels (labels_in (c.args.n - (c.loop-i.i + 1)) (c.loop-i.i + 1) (c.loop-i.sum + (get_or c.args.lengths.now c.loop-i.i 0)) c.args.letters.now c.args.lengths.now)) _ _ _ n after e fits in
+    λ n e. along-place _ (numbers_in (get_or c.args.lengths.now c.loop-i.i 0) c.loop-i.sum c.args.letters.now) (encode_labels (labels_in (c.args.n - (c.loop-i.i + 1)) (c.loop-i.i + 1) (c.loop-i.sum + (get_or c.args.lengths.now c.loop-i.i 0)) c.args.letters.now c.args.lengths.now)) _ _ _ n after e fits in
     place2 c.put_letters-at.result (c.put_letters-at.ensures.0 ∙ ap (λ (t : List ℕ). length t) part)
 
 -- src/puts.rt:41:5
@@ -153,14 +153,14 @@ pub loop-i-preserved : goal.loop-i-preserved
 loop-i-preserved c =
     let good : (c.loop-i.sum + (get_or c.args.lengths.now c.loop-i.i 0) ≤ most_letters)
     × (labels_fault (c.args.n - (c.loop-i.i + 1)) (c.loop-i.i + 1) (c.loop-i.sum + (get_or c.args.lengths.now c.loop-i.i 0)) c.args.letters.now c.args.lengths.now ≡ 0) =
-        labels-good c.args.letters.now c.args.lengths.now c.args.n c.loop-i.i c.loop-i.sum (omega arith) c.loop-i.invariant.1 in
+    labels-good c.args.letters.now c.args.lengths.now c.args.n c.loop-i.i c.loop-i.sum (omega arith) c.loop-i.invariant.1 in
     let next : Along (encode_labels (labels_in c.args.n 0 0 c.args.letters.now c.args.lengths.now)) (encode (get_or c.args.lengths.now c.loop-i.i 0) ++ ((numbers_in (get_or c.args.lengths.now c.loop-i.i 0) c.loop-i.sum c.args.letters.now) ++ (encode_labels (labels_in (c.args.n - (c.loop-i.i + 1)) (c.loop-i.i + 1) (c.loop-i.sum + (get_or c.args.lengths.now c.loop-i.i 0)) c.args.letters.now c.args.lengths.now)))) c.args.out.now c.loop-i.out c.loop-i.at =
-        along_as _ (labels_next c.args.letters.now c.args.lengths.now c.args.n c.loop-i.i c.loop-i.sum (omega arith)) c.loop-i.invariant.0 in
+    along_as _ (labels_next c.args.letters.now c.args.lengths.now c.args.n c.loop-i.i c.loop-i.sum (omega arith)) c.loop-i.invariant.0 in
     let after : Along (encode_labels (labels_in c.args.n 0 0 c.args.letters.now c.args.lengths.now)) ((numbers_in (get_or c.args.lengths.now c.loop-i.i 0) c.loop-i.sum c.args.letters.now) ++ (encode_labels (labels_in (c.args.n - (c.loop-i.i + 1)) (c.loop-i.i + 1) (c.loop-i.sum + (get_or c.args.lengths.now c.loop-i.i 0)) c.args.letters.now c.args.lengths.now))) c.args.out.now (put_mid c.loop-i.at (length c.loop-i.out - c.loop-i.at) c.loop-i.out c.put_number-at.new.out) (c.loop-i.at + c.put_number-at.result) =
-        let l = c.loop-i in
+    let l = c.loop-i in
     along-more _ (encode (get_or c.args.lengths.now c.loop-i.i 0)) _ _ l.out c.put_number-at.new.out l.at c.put_number-at.result next c.put_number-at.ensures.0 c.put_number-at.ensures.1 in
     let part : take (c.loop-i.sum + c.wide.result - c.loop-i.sum) (drop c.loop-i.sum c.args.letters.now) ≡ (numbers_in (get_or c.args.lengths.now c.loop-i.i 0) c.loop-i.sum c.args.letters.now) =
-        let g = good in
+    let g = good in
     numbers_between c.loop-i.sum (c.loop-i.sum + c.wide.result) (get_or c.args.lengths.now c.loop-i.i 0) c.args.letters.now (omega arith) (omega arith) in
     let l = c.loop-i in
     let a = c.args in

@@ -33,7 +33,7 @@ overflow_add-total c =
     let sized : (c.numbers_size.result ≡ length (encode_numbers (numbers_in (get_or c.args.counts.now c.loop-i.i 0) (path_room * c.loop-i.i) c.args.paths.now)))
     × (c.numbers_size.result ≤ 5120)
     × (length (encode (get_or c.args.counts.now c.loop-i.i 0)) ≤ 5) =
-        let l = c.loop-i in
+    let l = c.loop-i in
     let a = c.args in
     let n = get_or a.counts.now l.i 0 in
     let r = c.requires.3 l.i (omega arith) in
@@ -49,7 +49,7 @@ overflow_add-total-in-loop-i c =
     let sized : (c.numbers_size.result ≡ length (encode_numbers (numbers_in (get_or c.args.counts.now c.loop-i.i 0) (path_room * c.loop-i.i) c.args.paths.now)))
     × (c.numbers_size.result ≤ 5120)
     × (length (encode (get_or c.args.counts.now c.loop-i.i 0)) ≤ 5) =
-        let l = c.loop-i in
+    let l = c.loop-i in
     let a = c.args in
     let n = get_or a.counts.now l.i 0 in
     let r = c.requires.3 l.i (omega arith) in
@@ -65,7 +65,7 @@ loop-i-preserved c =
     let sized : (c.numbers_size.result ≡ length (encode_numbers (numbers_in (get_or c.args.counts.now c.loop-i.i 0) (path_room * c.loop-i.i) c.args.paths.now)))
     × (c.numbers_size.result ≤ 5120)
     × (length (encode (get_or c.args.counts.now c.loop-i.i 0)) ≤ 5) =
-        let l = c.loop-i in
+    let l = c.loop-i in
     let a = c.args in
     let n = get_or a.counts.now l.i 0 in
     let r = c.requires.3 l.i (omega arith) in

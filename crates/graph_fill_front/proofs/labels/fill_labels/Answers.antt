@@ -17,40 +17,49 @@ loop-i-init c =
     labels-none a.file.now a.start a.n a.letters.now a.lengths.now
 
 pub overflow_add-end : goal.overflow_add-end
-overflow_add-end c = omega (arith, (let told : (c.take_number-length.result.next + c.take_number-length.result.value
-    ≤ length c.args.file.now)
-    × (c.loop-i.sum + c.take_number-length.result.value ≤ full_letters) = let l = c.loop-i in
-    let a = c.args in
-    label_fits a.file.now a.start a.n a.letters.now a.lengths.now l.letters l.lengths l.at l.sum l.i c.take_number-length.result.value c.take_number-length.result.next
-    c.requires.start_value
-    (omega arith)
-    c.take_number-length.ensures.0
-    c.take_number-length.ensures.1
-    l.invariant in told))
+overflow_add-end c = omega (
+  arith,
+  (let told : (c.take_number-length.result.next + c.take_number-length.result.value
+      ≤ length c.args.file.now)
+      × (c.loop-i.sum + c.take_number-length.result.value ≤ full_letters) = let l = c.loop-i in
+      let a = c.args in
+      label_fits a.file.now a.start a.n a.letters.now a.lengths.now l.letters l.lengths l.at l.sum l.i c.take_number-length.result.value c.take_number-length.result.next
+      c.requires.start_value
+      (omega arith)
+      c.take_number-length.ensures.0
+      c.take_number-length.ensures.1
+      l.invariant in told),
+)
 
 pub slice_bounds-put_letters-start-in-loop-i : goal.slice_bounds-put_letters-start-in-loop-i
-slice_bounds-put_letters-start-in-loop-i c = omega (arith, (let told : (c.take_number-length.result.next + c.take_number-length.result.value
-    ≤ length c.args.file.now)
-    × (c.loop-i.sum + c.take_number-length.result.value ≤ full_letters) = let l = c.loop-i in
-    let a = c.args in
-    label_fits a.file.now a.start a.n a.letters.now a.lengths.now l.letters l.lengths l.at l.sum l.i c.take_number-length.result.value c.take_number-length.result.next
-    c.requires.start_value
-    (omega arith)
-    c.take_number-length.ensures.0
-    c.take_number-length.ensures.1
-    l.invariant in told))
+slice_bounds-put_letters-start-in-loop-i c = omega (
+  arith,
+  (let told : (c.take_number-length.result.next + c.take_number-length.result.value
+      ≤ length c.args.file.now)
+      × (c.loop-i.sum + c.take_number-length.result.value ≤ full_letters) = let l = c.loop-i in
+      let a = c.args in
+      label_fits a.file.now a.start a.n a.letters.now a.lengths.now l.letters l.lengths l.at l.sum l.i c.take_number-length.result.value c.take_number-length.result.next
+      c.requires.start_value
+      (omega arith)
+      c.take_number-length.ensures.0
+      c.take_number-length.ensures.1
+      l.invariant in told),
+)
 
 pub slice_bounds-put_letters-end-in-loop-i : goal.slice_bounds-put_letters-end-in-loop-i
-slice_bounds-put_letters-end-in-loop-i c = omega (arith, (let told : (c.take_number-length.result.next + c.take_number-length.result.value
-    ≤ length c.args.file.now)
-    × (c.loop-i.sum + c.take_number-length.result.value ≤ full_letters) = let l = c.loop-i in
-    let a = c.args in
-    label_fits a.file.now a.start a.n a.letters.now a.lengths.now l.letters l.lengths l.at l.sum l.i c.take_number-length.result.value c.take_number-length.result.next
-    c.requires.start_value
-    (omega arith)
-    c.take_number-length.ensures.0
-    c.take_number-length.ensures.1
-    l.invariant in told))
+slice_bounds-put_letters-end-in-loop-i c = omega (
+  arith,
+  (let told : (c.take_number-length.result.next + c.take_number-length.result.value
+      ≤ length c.args.file.now)
+      × (c.loop-i.sum + c.take_number-length.result.value ≤ full_letters) = let l = c.loop-i in
+      let a = c.args in
+      label_fits a.file.now a.start a.n a.letters.now a.lengths.now l.letters l.lengths l.at l.sum l.i c.take_number-length.result.value c.take_number-length.result.next
+      c.requires.start_value
+      (omega arith)
+      c.take_number-length.ensures.0
+      c.take_number-length.ensures.1
+      l.invariant in told),
+)
 
 pub put_letters-sum-requires : goal.put_letters-sum-requires
 put_letters-sum-requires c =

@@ -23,7 +23,7 @@ pub end_number-requires : goal.end_number-requires
 end_number-requires c =
     let l = c.loop-at in
     let a = c.args in
-     record { value_bound = group_lt (get_or a.bytes.now l.at 0) 16 l.weight l.value (2 ^ 32) (omega arith) l.invariant.1 (omega (arith, weight_le l.left l.weight l.invariant.2)); at_bound = omega arith }
+    record { value_bound = group_lt (get_or a.bytes.now l.at 0) 16 l.weight l.value (2 ^ 32) (omega arith) l.invariant.1 (omega (arith, weight_le l.left l.weight l.invariant.2)); at_bound = omega arith }
 
 pub returns-then-left-eq0 : goal.returns-then-left-eq0
 returns-then-left-eq0 c =
@@ -35,7 +35,7 @@ pub end_number-requires-then-b-lt128 : goal.end_number-requires-then-b-lt128
 end_number-requires-then-b-lt128 c =
     let l = c.loop-at in
     let a = c.args in
-     record { value_bound = group_lt (get_or a.bytes.now l.at 0) 128 l.weight l.value (2 ^ 32) (omega arith) l.invariant.1 (omega (arith, weight_le (l.left - 1) (l.weight * 128) (weight-more l.left l.weight c.if-left-eq0.false l.invariant.2))); at_bound = omega arith }
+    record { value_bound = group_lt (get_or a.bytes.now l.at 0) 128 l.weight l.value (2 ^ 32) (omega arith) l.invariant.1 (omega (arith, weight_le (l.left - 1) (l.weight * 128) (weight-more l.left l.weight c.if-left-eq0.false l.invariant.2))); at_bound = omega arith }
 
 pub returns-then-b-lt128 : goal.returns-then-b-lt128
 returns-then-b-lt128 c =
