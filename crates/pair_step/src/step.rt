@@ -20,6 +20,7 @@ pub fn graph_gap(s: u32, x: u32, y: u32) -> u32
 }
 
 // The distance that the graph gap counts, plus 1, from letter y of vertex u to letter x of vertex v; 0 where no walk goes there.
+#[tactic(auto, unfolding(crate::specs::Pairs::jump_in))]
 pub fn jump(row: &[u32], u: u32, y: u32, v: u32, x: u32) -> u32
     requires { (1 ≤ u) × (u ≤ length row.now) }
     ensures { result ≡ jump_in row.now u y v x }
