@@ -1,7 +1,7 @@
 # make test: the gate. make list: prove, build and run the listing program. make lib: the static library. make examples: the programs in C and
 # Rust over it. make badinput: the listing program on bad input. make comparelist: its listings against the second program's. make compare: fresh random cases against the second program. make bench: times and
 # instruction counts beside an unproved Rust program. make corpus: the stored cases of both corpora and their expected output, made anew.
-.PHONY: test list lib examples badinput comparelist hostlib tools compare bench corpus
+.PHONY: test list lister lib examples badinput comparelist tools compare bench corpus
 
 # the folder that make list lists
 DIR ?= examples/g1
@@ -12,14 +12,22 @@ CFLAGS ?= -std=c11 -O2 -Wall -Wextra -Werror
 test:
 	bash .ci/run
 
+# The listing program, proved and built (rt builds it as it runs it, in its own folder, where there is no file to list).
+LISTER := crates/chainlist/out/chainlist
+
 # needs rt alone; what is proved and built is said on standard error, so that standard output has the listing alone
-list:
-	@rt check chainlist >&2
-	@cd "$(DIR)" && "$(CURDIR)/scripts/run" "$(CURDIR)/target/bin/chainlist"
+list: lister
+	@cd "$(DIR)" && "$(CURDIR)/$(LISTER)"
+
+lister:
+	@cd crates/chainlist && rt run >/dev/null
+	@cd crates/chainlist && rt check >&2
 
 # needs rt alone: target/staticlib/libtoadtrellis.a, for include/toadtrellis.h
 lib:
-	rt staticlib toadtrellis
+	cd crates/toadtrellis_c && rt lib
+	mkdir -p target/staticlib
+	cp crates/toadtrellis_c/out/libtoadtrellis_c.a target/staticlib/libtoadtrellis.a
 
 # needs a C compiler and cargo as well, and x86-64: builds the examples and holds what they list to the stored listing
 examples: lib
@@ -31,23 +39,15 @@ examples: lib
 	cargo test --quiet --offline --manifest-path examples/rust/Cargo.toml --target-dir target/rust
 	cargo run --quiet --offline --manifest-path examples/rust/Cargo.toml --target-dir target/rust --bin list examples/g1 | cmp - crates/chainlist/stdout
 
-badinput: list
+badinput: lister
 	scripts/badinput
 
 # SEED and LISTS, how many, of the random cases; needs cargo as well
-comparelist: list
+comparelist: lister
 	scripts/comparelist $(SEED) $(or $(LISTS),300)
 
-# The library that compare and bench link: on x86-64 the one that is delivered; elsewhere the same proved module, compiled for this machine.
-ifeq ($(shell uname -m),x86_64)
-hostlib: lib
-else
-hostlib:
-	bench/native-lib toadtrellis
-endif
-
-# needs cargo as well
-tools: hostlib
+# needs cargo as well; compare and bench link the archive that is delivered
+tools: lib
 	cargo build --quiet --offline --release --manifest-path second/Cargo.toml
 	cargo build --quiet --offline --release --manifest-path bench/Cargo.toml
 

@@ -1,5 +1,4 @@
-//! Links the archive that `make lib` writes: from the folder named by TOADTRELLIS_LIB, or from target/staticlib at the repository's top. On a machine
-//! that is no x86-64 it is target/native, which bench/native-lib writes.
+//! Links the archive that `make lib` writes: from the folder named by TOADTRELLIS_LIB, or from target/staticlib at the repository's top.
 use std::env;
 use std::path::PathBuf;
 
@@ -8,8 +7,7 @@ fn main() {
         Some(folder) => PathBuf::from(folder),
         None => {
             let here = PathBuf::from(env::var_os("CARGO_MANIFEST_DIR").expect("cargo names the crate's folder"));
-            let x86_64 = env::var("CARGO_CFG_TARGET_ARCH").as_deref() == Ok("x86_64");
-            here.join("../../target").join(if x86_64 { "staticlib" } else { "native" })
+            here.join("../../target/staticlib")
         }
     };
     println!("cargo:rustc-link-search=native={}", folder.display());
