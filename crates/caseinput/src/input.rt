@@ -1,6 +1,6 @@
-// The parts of a record, read from a reader. A number has four bytes, lowest first. Past the input's end everything reads as 0. An error of the reader
-// is passed on; a space that was lent then holds what was read before it.
-ghost use Rattle.std.specs.Prelude.{◌≡◌, ◌+◌, ◌*◌, ◌<◌, ◌≤◌, slice_index, IfOk};
+// The parts of a record, read from a reader. A number has four bytes, lowest first. Past the input's end everything reads as 0. The only error is the
+// reader's own, passed on; a space that was lent then keeps its length, and holds what was read before it.
+ghost use Rattle.std.specs.Prelude.{◌≡◌, ◌+◌, ◌*◌, ◌<◌, ◌≤◌, length, slice_index, IfOk, OnErr};
 ghost use Rattle.caseinput.specs.Counts.{IsPrefixLen};
 
 use std::io;
@@ -8,7 +8,8 @@ use std::io::Read;
 
 // Reads until the space is full or the input ends. The number of bytes read.
 pub fn read_full(from: &mut impl Read, space: &mut [u8]) -> io::Result<usize>
-    ensures { IfOk result (λ n. IsPrefixLen n space.new) }
+    ensures ok { IfOk result (λ n. IsPrefixLen n space.new) }
+    ensures err { OnErr result (length space.new ≡ length space.old) }
 {
     let mut n: usize = 0;
     while n < space.len() {
@@ -66,7 +67,8 @@ fn skip(from: &mut impl Read, n: usize) -> io::Result<()> {
 
 // Reads a file of a record into space, as far as it has room; a file that is longer than that is too long in any case. The number of bytes kept.
 pub fn read_file(from: &mut impl Read, space: &mut [u8]) -> io::Result<usize>
-    ensures { IfOk result (λ n. IsPrefixLen n space.new) }
+    ensures ok { IfOk result (λ n. IsPrefixLen n space.new) }
+    ensures err { OnErr result (length space.new ≡ length space.old) }
 {
     let n = read_number(from)? as usize;
     let kept = least(n, space.len());
@@ -110,7 +112,8 @@ fn read_number_run(from: &mut impl Read, space: &mut [u32]) -> io::Result<()> {
 
 // Reads a buffer of letters into space that holds zeros: its size, how many runs of other places, the runs. The buffer's size, as far as there is room.
 pub fn read_letters(from: &mut impl Read, space: &mut [u8]) -> io::Result<usize>
-    ensures { IfOk result (λ n. IsPrefixLen n space.new) }
+    ensures ok { IfOk result (λ n. IsPrefixLen n space.new) }
+    ensures err { OnErr result (length space.new ≡ length space.old) }
 {
     let size = read_number(from)?;
     for _ in 0..read_number(from)? {
@@ -121,7 +124,8 @@ pub fn read_letters(from: &mut impl Read, space: &mut [u8]) -> io::Result<usize>
 
 // The same of numbers.
 pub fn read_numbers(from: &mut impl Read, space: &mut [u32]) -> io::Result<usize>
-    ensures { IfOk result (λ n. IsPrefixLen n space.new) }
+    ensures ok { IfOk result (λ n. IsPrefixLen n space.new) }
+    ensures err { OnErr result (length space.new ≡ length space.old) }
 {
     let size = read_number(from)?;
     for _ in 0..read_number(from)? {

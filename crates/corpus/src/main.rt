@@ -36,7 +36,7 @@ use graph_read::{GraphAnswer, read_graph};
 use placing::ChainAnswer;
 use plain_placing::plain;
 use std::io;
-use std::io::{BufReader, BufWriter, Read, Write};
+use std::io::{Read, Write};
 use sweep_placing::sweep;
 use tables::TablesAnswer;
 use tables_make::make::{cell_zeros, letter_zeros, number_zeros, path_zeros, vertex_zeros};
@@ -351,12 +351,12 @@ fn answer_next(from: &mut impl Read, to: &mut impl Write) -> io::Result<bool> {
 
 // Answers record after record: at most 1,000,000, so that it ends on any input.
 fn main(rt: HostRuntime) -> io::Result<()> {
-    let mut from = BufReader::new(rt.alloc(), rt.stdin())?;
-    let mut to = BufWriter::new(rt.alloc(), rt.stdout())?;
+    let mut from = rt.stdin();
+    let mut to = rt.stdout();
     for _ in 0..1000000 {
         if !answer_next(&mut from, &mut to)? {
             break;
         }
     }
-    to.flush()
+    Ok(())
 }

@@ -9,7 +9,7 @@ use std::io;
 use std::io::Write;
 use std::rt::Files;
 
-// Both files are read, the graph file first; then what is printed of them is laid and written.
+// Both files are read, the graph file first; then what is printed of them is laid and written. The only error is the writer's own.
 pub fn print_listing(
     rt: &impl Files,
     to: &mut impl Write,

@@ -1,4 +1,5 @@
-// What the programs with the cases of document 01 write with: text, numbers, bytes, and how many places of a buffer hold a number.
+// What the programs with the cases of document 01 write with: text, numbers, bytes, and how many places of a buffer hold a number. The only error is
+// the writer's own, passed on; what was written before it is written.
 #![tactic(auto)]
 
 ghost use Rattle.std.specs.Prelude.{◌≡◌};

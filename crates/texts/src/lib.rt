@@ -48,7 +48,7 @@ fn say_place(to: &mut impl Write, numbers: &[u64], at: usize) -> io::Result<()> 
     Ok(())
 }
 
-// Writes a text, with the next of the numbers in place of each `#`.
+// Writes a text, with the next of the numbers in place of each `#`. The only error is the writer's own, passed on.
 pub fn say_filled(to: &mut impl Write, text: &[u8], numbers: &[u64]) -> io::Result<()> {
     let mut at: usize = 0;
     let mut start: usize = 0;

@@ -108,12 +108,7 @@ pub fn toad_tables(
 }
 
 // The sweep: the best score of all chains ending at each anchor, and the chain that is returned.
-pub fn toad_sweep(
-    graph: &[u8],
-    file: &[u8],
-    scores: &mut [u32],
-    chain: &mut [u32],
-) -> ChainAnswer
+pub fn toad_sweep(graph: &[u8], file: &[u8], scores: &mut [u32], chain: &mut [u32]) -> ChainAnswer
     ensures { ChainFound IsSweep graph.now file.now
         (record { scores = scores.old; chain = chain.old })
         (record { scores = scores.new; chain = chain.new })
@@ -123,12 +118,7 @@ pub fn toad_sweep(
 }
 
 // The plain pass, which audits the sweep: the same scores and chain, with no rounds.
-pub fn toad_plain(
-    graph: &[u8],
-    file: &[u8],
-    scores: &mut [u32],
-    chain: &mut [u32],
-) -> ChainAnswer
+pub fn toad_plain(graph: &[u8], file: &[u8], scores: &mut [u32], chain: &mut [u32]) -> ChainAnswer
     ensures { ChainFound IsPlain graph.now file.now
         (record { scores = scores.old; chain = chain.old })
         (record { scores = scores.new; chain = chain.new })

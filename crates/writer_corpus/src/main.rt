@@ -18,7 +18,7 @@ use caseinput::digest::{DIGEST_START, put_bytes};
 use caseinput::input::{read_file, read_kind, read_letters, read_number, read_numbers};
 use graph_write::write_graph;
 use std::io;
-use std::io::{BufReader, BufWriter, Read, Write};
+use std::io::{Read, Write};
 use telling::{BYTE_BEFORE, count_bytes, say};
 use texts::say_filled;
 
@@ -308,12 +308,12 @@ fn answer_next(from: &mut impl Read, to: &mut impl Write) -> io::Result<bool> {
 
 // Answers record after record: at most 1,000,000, so that it ends on any input.
 fn main(rt: HostRuntime) -> io::Result<()> {
-    let mut from = BufReader::new(rt.alloc(), rt.stdin())?;
-    let mut to = BufWriter::new(rt.alloc(), rt.stdout())?;
+    let mut from = rt.stdin();
+    let mut to = rt.stdout();
     for _ in 0..1000000 {
         if !answer_next(&mut from, &mut to)? {
             break;
         }
     }
-    to.flush()
+    Ok(())
 }

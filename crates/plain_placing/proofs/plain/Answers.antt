@@ -17,13 +17,13 @@ returns-then-a-ne0 c = refused-answered IsPlain _ _ (record { scores = c.args.sc
 pub plain_read-t-requires : goal.plain_read-t-requires
 plain_read-t-requires c =
     let taken : Taken c.args.graph.now c.args.file.now (record { scores = c.args.scores.now; chain = c.args.chain.now }) c.begin-a.new.numbers c.begin-a.result =
-        c.begin-a.ensures.takes (omega arith) in
+    c.begin-a.ensures.takes (omega arith) in
     let T = taken in
-     record { some_read = record { parsed = T.both.graph; found = T.graph_is; a = T.both.anchors.set; anchors = T.anchors }; places_fit = (places_fit T.anchors T.letters, short-read T.anchors T.letters); full_letters_in_bounds = (le_of_eq (sym (c.begin-a.auto.letters ∙ room-long 32768 c.letter_zeros-letters.ensures)), T.rooms.0, T.rooms.1) }
+    record { some_read = record { parsed = T.both.graph; found = T.graph_is; a = T.both.anchors.set; anchors = T.anchors }; places_fit = (places_fit T.anchors T.letters, short-read T.anchors T.letters); full_letters_in_bounds = (le_of_eq (sym (c.begin-a.auto.letters ∙ room-long 32768 c.letter_zeros-letters.ensures)), T.rooms.0, T.rooms.1) }
 
 pub returns : goal.returns
 returns c =
     let taken : Taken c.args.graph.now c.args.file.now (record { scores = c.args.scores.now; chain = c.args.chain.now }) c.begin-a.new.numbers c.begin-a.result =
-        c.begin-a.ensures.takes (omega arith) in
+    c.begin-a.ensures.takes (omega arith) in
     let T = taken in
     accepted-answered IsPlain _ _ (record { scores = c.args.scores.now; chain = c.args.chain.now }) T.both _ _ _ _ T.reply T.anchors.anchors_are (c.plain_read-t.ensures T.both.graph T.both.anchors.set T.graph_is T.anchors) c.acceptance.ensures
