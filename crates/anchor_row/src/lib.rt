@@ -10,29 +10,35 @@ use anchors::PER_ANCHOR;
 fn last(first: u32, len: u32) -> u64
     ensures { result ≡ (first + len) - 1 }
 {
-    let past = first as u64 + len as u64;
-    if past == 0 {
-        return 0;
-    }
-    past - 1
+    (first as u64 + len as u64).saturating_sub(1)
 }
 
-// What one anchor's line has after the number: v x y c d and the score ending there.
-pub fn row_of(numbers: &[u32], scores: &[u32], number: u32) -> [u64; 6]
-    requires { HeldAt number numbers.now scores.now }
-    ensures { result ≡ row_in numbers.now scores.now number }
-{
-    let j = number as usize - 1;
-    let at = PER_ANCHOR * j;
-    let x = numbers[at + 1];
-    let c = numbers[at + 2];
-    let len = numbers[at + 3];
-    [
-        numbers[at] as u64,
-        x as u64,
-        last(x, len),
-        c as u64,
-        last(c, len),
-        scores[j] as u64,
-    ]
+// Anchors, by their numbers, and the score of each.
+#[derive(Clone, Copy)]
+pub struct Scored<'a> {
+    pub numbers: &'a [u32],
+    pub scores: &'a [u32],
+}
+
+impl Scored<'_> {
+    // What one anchor's line has after the number: v x y c d and the score ending there.
+    pub fn row_of(&self, number: u32) -> [u64; 6]
+        requires { HeldAt number self.now.numbers.now self.now.scores.now }
+        ensures { result ≡ row_in self.now.numbers.now self.now.scores.now number }
+    {
+        let j = number as usize - 1;
+        let at = PER_ANCHOR * j;
+        let numbers = self.numbers;
+        let x = numbers[at + 1];
+        let c = numbers[at + 2];
+        let len = numbers[at + 3];
+        [
+            numbers[at] as u64,
+            x as u64,
+            last(x, len),
+            c as u64,
+            last(c, len),
+            self.scores[j] as u64,
+        ]
+    }
 }

@@ -4,7 +4,9 @@
 // file first. What each case is stands above the text, in the same order.
 #![tactic(auto)]
 
-use anchors_check::{CheckedBoth, check_anchors};
+ghost use Rattle.std.specs.Prelude.{◌≤◌};
+
+use anchors_check::check_anchors;
 use anchors_view::view::{anchor_letters, view};
 use std::io;
 use std::io::Write;
@@ -12,24 +14,22 @@ use texts::{part, parts, say_filled};
 
 // Writes what the check says of two files.
 fn show(to: &mut impl Write, graph: &[u8], file: &[u8]) -> io::Result<()> {
-    let found = check_anchors(graph, file);
-    match found {
-        CheckedBoth::Accepted(_, a) => {
-            say_filled(
-                to,
-                b"accepted r # read # N # anchors #\n",
-                &[a.r as u64, a.read as u64, a.n as u64, a.anchors as u64],
-            )?;
-        }
-        CheckedBoth::Refused(number, which, place) => {
+    match check_anchors(graph, file) {
+        Ok((_, a)) => say_filled(
+            to,
+            b"accepted r # read # N # anchors #\n",
+            &[a.r as u64, a.read as u64, a.n as u64, a.anchors as u64],
+        ),
+        Err(refused) => {
+            let number = u32::from(refused.fault.refusal);
+            let which = u32::from(refused.file);
             say_filled(
                 to,
                 b"refused # file # place #\n",
-                &[number as u64, which as u64, place as u64],
-            )?;
+                &[number as u64, which as u64, refused.fault.place as u64],
+            )
         }
     }
-    Ok(())
 }
 
 // Writes the heading of a text, and what the check says of the graph file after it with each of the anchor files after that.
@@ -62,7 +62,7 @@ fn look<'a>(
     say_filled(
         to,
         b"file # start # length # letters [",
-        &[w.file as u64, w.start as u64, w.len as u64],
+        &[u32::from(w.file) as u64, w.start as u64, w.len as u64],
     )?;
     to.write_all(anchor_letters(graph, file, number, which))?;
     to.write_all(b"]\n")
@@ -267,29 +267,21 @@ fn more_order(to: &mut impl Write) -> io::Result<()> {
     )
 }
 
-// 65,536 and 65,537 bytes 0.
-fn full_room() -> [u8; 65536] {
-    [0u8; 65536]
-}
-
-fn over_room() -> [u8; 65537] {
-    [0u8; 65537]
+// Writes what the check says of N bytes 0 after a graph file, and after themselves.
+fn show_zeros<const N: usize>(to: &mut impl Write, graph: &[u8]) -> io::Result<()>
+    requires { N ≤ 65537 }
+{
+    let file = [0u8; N];
+    show(to, graph, &file)?;
+    show(to, &file, &file)
 }
 
 // Anchor files of 65,536 and 65,537 bytes 0, and the same as graph files: those of 65,536 are not too long.
 fn long(to: &mut impl Write) -> io::Result<()> {
     show_all(to, b"long files\n|")?;
     let one: &[u8] = b"\x01\x01\x04\x41\x43\x47\x54\x00\x01\x01\x01";
-    let full = full_room();
-    show_both(to, one, &full)?;
-    let over = over_room();
-    show_both(to, one, &over)
-}
-
-// Writes what the check says of a file after a graph file, and after itself.
-fn show_both(to: &mut impl Write, graph: &[u8], file: &[u8]) -> io::Result<()> {
-    show(to, graph, file)?;
-    show(to, file, file)
+    show_zeros::<65536>(to, one)?;
+    show_zeros::<65537>(to, one)
 }
 
 // Writes where the letters of an anchor stand, in two files that are parts of a text.

@@ -9,21 +9,17 @@ ghost use Rattle.std.specs.Prelude.{◌≤◌};
 
 use anchors_read::{AnchorsAnswer, read_anchors};
 use anchors_write::{WrittenAnchors, write_anchors};
-use changes::{change_letters, change_numbers, changed};
+use changes::{change_entries, changed};
 use std::io;
 use std::io::Write;
-use telling::{
-    BYTE_BEFORE, NUMBER_BEFORE, count_bytes, count_numbers, say, say_bytes, say_numbers,
-};
+use telling::{BYTE_BEFORE, NUMBER_BEFORE, count, say, say_bytes, say_numbers};
 use texts::{part, parts, say_filled};
 
 // Writes the first n bytes as letters.
 fn say_letters(to: &mut impl Write, bytes: &[u8], n: usize) -> io::Result<()> {
-    if 0 < n {
-        if n <= bytes.len() {
-            say(to, b" ")?;
-            say(to, &bytes[..n])?;
-        }
+    if 0 < n && n <= bytes.len() {
+        say(to, b" ")?;
+        say(to, &bytes[..n])?;
     }
     Ok(())
 }
@@ -36,10 +32,10 @@ fn say_places(to: &mut impl Write, letters: &[u8], anchors: &[u32]) -> io::Resul
         to,
         b" zero # # before # #\n",
         &[
-            count_bytes(letters, 0),
-            count_numbers(anchors, 0),
-            count_bytes(letters, BYTE_BEFORE),
-            count_numbers(anchors, NUMBER_BEFORE),
+            count(letters, 0),
+            count(anchors, 0),
+            count(letters, BYTE_BEFORE),
+            count(anchors, NUMBER_BEFORE),
         ],
     )
 }
@@ -89,13 +85,19 @@ fn read_into(
     tell_read(to, part(text, name), answer, letters, anchors)
 }
 
-// Buffers of full size.
-fn letter_room() -> [u8; 32768] {
-    [BYTE_BEFORE; 32768]
-}
-
-fn anchor_room() -> [u32; 10240] {
-    [NUMBER_BEFORE; 10240]
+// Reads into buffers of L letters and of A numbers.
+fn read_sized<const L: usize, const A: usize>(
+    to: &mut impl Write,
+    text: &[u8],
+    name: usize,
+    graph: usize,
+    file: usize,
+) -> io::Result<()>
+    requires { (L ≤ 32769) × (A ≤ 10241) }
+{
+    let mut letters = [BYTE_BEFORE; L];
+    let mut anchors = [NUMBER_BEFORE; A];
+    read_into(to, text, name, graph, file, &mut letters, &mut anchors)
 }
 
 // Reads into buffers of full size.
@@ -106,29 +108,7 @@ fn read(
     graph: usize,
     file: usize,
 ) -> io::Result<()> {
-    let mut letters = letter_room();
-    let mut anchors = anchor_room();
-    read_into(to, text, name, graph, file, &mut letters, &mut anchors)
-}
-
-// The reader's buffers: one place more than full size.
-fn read_larger(to: &mut impl Write, text: &[u8]) -> io::Result<()> {
-    let mut letters = [BYTE_BEFORE; 32769];
-    let mut anchors = [NUMBER_BEFORE; 10241];
-    read_into(to, text, 16, 0, 2, &mut letters, &mut anchors)
-}
-
-// One place less for the letters, and one for the anchors.
-fn read_few_letters(to: &mut impl Write, text: &[u8], name: usize, graph: usize) -> io::Result<()> {
-    let mut letters = [BYTE_BEFORE; 32767];
-    let mut anchors = anchor_room();
-    read_into(to, text, name, graph, 2, &mut letters, &mut anchors)
-}
-
-fn read_few_anchors(to: &mut impl Write, text: &[u8]) -> io::Result<()> {
-    let mut letters = letter_room();
-    let mut anchors = [NUMBER_BEFORE; 10239];
-    read_into(to, text, 18, 0, 2, &mut letters, &mut anchors)
+    read_sized::<32768, 10240>(to, text, name, graph, file)
 }
 
 // The reader's cases. First the graph file, the same cut short and the anchor file; then names, and files after the names that have one.
@@ -152,10 +132,10 @@ fn read_all(to: &mut impl Write) -> io::Result<()> {
     read(to, text, 10, 0, 11)?;
     read(to, text, 12, 0, 13)?;
     read(to, text, 14, 1, 15)?;
-    read_larger(to, text)?;
-    read_few_letters(to, text, 17, 0)?;
-    read_few_anchors(to, text)?;
-    read_few_letters(to, text, 19, 1)
+    read_sized::<32769, 10241>(to, text, 16, 0, 2)?;
+    read_sized::<32767, 10240>(to, text, 17, 0, 2)?;
+    read_sized::<32768, 10239>(to, text, 18, 0, 2)?;
+    read_sized::<32767, 10240>(to, text, 19, 1, 2)
 }
 
 // ---- the writer
@@ -185,7 +165,7 @@ fn tell_write(
     say(to, name)?;
     say_written(to, answer)?;
     say_bytes(to, out, answer.bytes as usize)?;
-    say_filled(to, b" before #\n", &[count_bytes(out, BYTE_BEFORE)])
+    say_filled(to, b" before #\n", &[count(out, BYTE_BEFORE)])
 }
 
 // Calls the writer with a lent output.
@@ -209,8 +189,16 @@ fn write_into(
 fn size_of(changes: &[u8], list: u8, most: usize, x: u32) -> usize
     ensures { result ≤ most }
 {
-    let size = changed(changes, list, x) as usize;
-    if size < most { size } else { most }
+    (changed(changes, list, x) as usize).min(most)
+}
+
+// Buffers of full size.
+fn letter_room() -> [u8; 32768] {
+    [BYTE_BEFORE; 32768]
+}
+
+fn anchor_room() -> [u32; 10240] {
+    [NUMBER_BEFORE; 10240]
 }
 
 // The listing's read and anchors, as the reader makes them, with a case's changes.
@@ -218,7 +206,7 @@ fn letters_of(text: &[u8], changes: &[u8]) -> [u8; 32768] {
     let mut letters = letter_room();
     let mut anchors = anchor_room();
     read_anchors(part(text, 0), part(text, 2), &mut letters, &mut anchors);
-    change_letters(changes, b's', &mut letters);
+    change_entries(changes, b's', &mut letters);
     letters
 }
 
@@ -226,7 +214,7 @@ fn anchors_of(text: &[u8], changes: &[u8]) -> [u32; 10240] {
     let mut letters = letter_room();
     let mut anchors = anchor_room();
     read_anchors(part(text, 0), part(text, 2), &mut letters, &mut anchors);
-    change_numbers(changes, b'a', &mut anchors);
+    change_entries(changes, b'a', &mut anchors);
     anchors
 }
 

@@ -12,8 +12,6 @@ use Rattle.wire.specs.Found.{good, Part}
 use Rattle.wire.specs.Numbers.{encode, number_at}
 use Rattle.wire.specs.Refusals.{out_of_range, wrong_kind, left_over}
 use Rattle.wire.specs.Sizes.{anchor_kind, most_file_bytes, most_read, most_anchors}
-use Rattle.wire.specs.declared.numbers.Cursor.{Cursor}
-use Rattle.wire.specs.declared.numbers.Number.TheVariants.{Value}
 use Rattle.wire.proofs.NumberLaws.{Bytes, number-value, number-within}
 use Rattle.wire.proofs.Finding.{refuse-good, on_then, on-number, on-refuse, good-same}
 use Rattle.graph.specs.Content.{Graph}
@@ -44,10 +42,10 @@ numbers-bytes : (s : List ℕ) (at : ℕ) (a : Numbers) → Bytes s → numbers_
 numbers-bytes s at a b e =
     let n = numbers-step s at a e in
     let v = (number-value s at a.anchor.v n.v_end b n.v_is).suffix in
-    let x = (number-value s n.v_end.at a.anchor.x n.x_end b n.x_is).suffix in
-    let c = (number-value s n.x_end.at a.anchor.c n.c_end b n.c_is).suffix in
-    let l = (number-value s n.c_end.at a.anchor.len n.len_end b n.len_is).suffix in
-    let w = (number-value s n.len_end.at a.anchor.weight n.weight_end b n.weight_is).suffix in
+    let x = (number-value s n.v_end a.anchor.x n.x_end b n.x_is).suffix in
+    let c = (number-value s n.x_end a.anchor.c n.c_end b n.c_is).suffix in
+    let l = (number-value s n.c_end a.anchor.len n.len_end b n.len_is).suffix in
+    let w = (number-value s n.len_end a.anchor.weight n.weight_end b n.weight_is).suffix in
     v
     ∙ ap (λ (t : List ℕ). encode a.anchor.v ++ t) (x
     ∙ ap (λ (t : List ℕ). encode a.anchor.x ++ t) (c
@@ -100,16 +98,16 @@ module _ (g : Graph) (read : List ℕ) where
 pub record AnchorParts (g : Graph) (s : List ℕ) (q : ParsedAnchors) : Type 0 where
   -- the kind, and where r stands
   pub length_at : ℕ
-  pub kind_is : number_at s 0 ≡ Value anchor_kind (record { at = length_at })
+  pub kind_is : number_at s 0 ≡ good (record { content = anchor_kind; next = length_at })
   -- r
-  pub length_is : number_at s length_at ≡ Value (read_length q.set) (record { at = q.read_at })
+  pub length_is : number_at s length_at ≡ good (record { content = read_length q.set; next = q.read_at })
   pub some_read : 1 ≤ read_length q.set
   pub few_read : read_length q.set ≤ most_read
   -- the letters of the read
   pub read_is : letters_from (read_length q.set) s q.read_at ≡ good q.set.read
   pub read_within : q.read_at + read_length q.set ≤ length s
   -- N
-  pub count_is : number_at s (q.read_at + read_length q.set) ≡ Value (anchor_count q.set) (record { at = q.anchors_at })
+  pub count_is : number_at s (q.read_at + read_length q.set) ≡ good (record { content = anchor_count q.set; next = q.anchors_at })
   pub few_anchors : anchor_count q.set ≤ most_anchors
   -- the anchors, up to the end of the file
   pub anchors_is : anchors_from g q.set.read (anchor_count q.set) no_anchor s q.anchors_at
@@ -117,40 +115,40 @@ pub record AnchorParts (g : Graph) (s : List ℕ) (q : ParsedAnchors) : Type 0 w
   pub anchors_within : q.anchors_at ≤ length s
 
 -- the parts, from what was found of each
-parts_from : (g : Graph) (s : List ℕ) (q : ParsedAnchors) (kind : ℕ) (a : Cursor) (r : ℕ) (b : Cursor) (read : List ℕ) (n : ℕ) (c : Cursor)
+parts_from : (g : Graph) (s : List ℕ) (q : ParsedAnchors) (kind : ℕ) (a : ℕ) (r : ℕ) (b : ℕ) (read : List ℕ) (n : ℕ) (c : ℕ)
     (p : Part (List Anchor))
-    → number_at s 0 ≡ Value kind a
+    → number_at s 0 ≡ good (record { content = kind; next = a })
     → pick (eqb kind anchor_kind) 0 wrong_kind ≡ 0
-    → number_at s a.at ≡ Value r b
+    → number_at s a ≡ good (record { content = r; next = b })
     → read_fault r ≡ 0
-    → letters_from r s b.at ≡ good read
-    → number_at s (b.at + r) ≡ Value n c
+    → letters_from r s b ≡ good read
+    → number_at s (b + r) ≡ good (record { content = n; next = c })
     → anchor_count_fault n ≡ 0
-    → anchors_from g read n no_anchor s c.at ≡ good p
+    → anchors_from g read n no_anchor s c ≡ good p
     → pick (eqb p.next (length s)) 0 left_over ≡ 0
-    → record { set = record { read = read; anchors = p.content }; read_at = b.at; anchors_at = c.at } ≡ q
+    → record { set = record { read = read; anchors = p.content }; read_at = b; anchors_at = c } ≡ q
     → AnchorParts g s q
 parts_from g s q kind a r b read n c p kind_is is_kind length_is kept_r read_is count_is kept_n anchors_is ends e =
-    let w = number-within s a.at r b length_is in
-    let l = letters-read r s b.at read w.1 read_is in
-    let v = number-within s (b.at + r) n c count_is in
-    let i = anchors-read g read n no_anchor s c.at p v.1 anchors_is in
+    let w = number-within s a r b length_is in
+    let l = letters-read r s b read w.1 read_is in
+    let v = number-within s (b + r) n c count_is in
+    let i = anchors-read g read n no_anchor s c p v.1 anchors_is in
     let k : kind ≡ anchor_kind = eqb-true kind anchor_kind (passed (eqb kind anchor_kind) wrong_kind (omega arith) is_kind) in
     let f : p.next ≡ length s = eqb-true p.next (length s) (passed (eqb p.next (length s)) left_over (omega arith) ends) in
     let hr = range_kept 1 most_read r kept_r in
     let hn = range_kept 0 most_anchors n kept_n in
     subst (AnchorParts g s) e
     (record {
-      length_at = a.at;
-      kind_is = kind_is ∙ ap (λ (j : ℕ). Value j a) k;
-      length_is = length_is ∙ ap (λ (j : ℕ). Value j b) (sym l.count);
+      length_at = a;
+      kind_is = kind_is ∙ ap (λ (j : ℕ). good (record { content = j; next = a })) k;
+      length_is = length_is ∙ ap (λ (j : ℕ). good (record { content = j; next = b })) (sym l.count);
       some_read = omega (arith, l.count);
       few_read = omega (arith, l.count);
-      read_is = ap (λ (j : ℕ). letters_from j s b.at) l.count ∙ read_is;
+      read_is = ap (λ (j : ℕ). letters_from j s b) l.count ∙ read_is;
       read_within = omega (arith, l.count, l.within);
-      count_is = ap (λ (j : ℕ). number_at s (b.at + j)) l.count ∙ count_is ∙ ap (λ (j : ℕ). Value j c) (sym i.count);
+      count_is = ap (λ (j : ℕ). number_at s (b + j)) l.count ∙ count_is ∙ ap (λ (j : ℕ). good (record { content = j; next = c })) (sym i.count);
       few_anchors = omega (arith, i.count);
-      anchors_is = ap (λ (j : ℕ). anchors_from g read j no_anchor s c.at) i.count
+      anchors_is = ap (λ (j : ℕ). anchors_from g read j no_anchor s c) i.count
           ∙ anchors_is
           ∙ ap (λ (j : ℕ). good (record { content = p.content; next = j })) f;
       anchors_within = v.1;
@@ -162,12 +160,12 @@ unfolding whole_anchors
 whole_parts g s q e =
     on-number s 0 _ q e (λ kind a kind_is e1.
     on-refuse (pick (eqb kind anchor_kind) 0 wrong_kind) 0 _ q e1 (λ is_kind e2.
-    on-number s a.at _ q e2 (λ r b length_is e3.
-    on-refuse (read_fault r) a.at _ q e3 (λ kept_r e4.
-    on_then (letters_from r s b.at) _ q e4 (λ read read_is e5.
-    on-number s (b.at + r) _ q e5 (λ n c count_is e6.
-    on-refuse (anchor_count_fault n) (b.at + r) _ q e6 (λ kept_n e7.
-    on_then (anchors_from g read n no_anchor s c.at) _ q e7 (λ p anchors_is e8.
+    on-number s a _ q e2 (λ r b length_is e3.
+    on-refuse (read_fault r) a _ q e3 (λ kept_r e4.
+    on_then (letters_from r s b) _ q e4 (λ read read_is e5.
+    on-number s (b + r) _ q e5 (λ n c count_is e6.
+    on-refuse (anchor_count_fault n) (b + r) _ q e6 (λ kept_n e7.
+    on_then (anchors_from g read n no_anchor s c) _ q e7 (λ p anchors_is e8.
     on-refuse (pick (eqb p.next (length s)) 0 left_over) p.next _ q e8 (λ ends e9.
     parts_from g s q kind a r b read n c p kind_is is_kind length_is kept_r read_is count_is kept_n anchors_is ends (good-same _ q e9))))))))))
 

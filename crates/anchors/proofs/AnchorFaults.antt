@@ -133,10 +133,10 @@ module _ (s : List ℕ) (most : ℕ) (short : length s ≤ most) where
   unfolding numbers_at
   numbers-fault at h =
       ends-number s at _ (number-known at h) (λ v a e.
-      ends-number s a.at _ (number-known a.at (number-within s at v a e).1) (λ x b f.
-      ends-number s b.at _ (number-known b.at (number-within s a.at x b f).1) (λ c d i.
-      ends-number s d.at _ (number-known d.at (number-within s b.at c d i).1) (λ len l j.
-      ends-number s l.at _ (number-known l.at (number-within s d.at len l j).1) (λ weight w k.
+      ends-number s a _ (number-known a (number-within s at v a e).1) (λ x b f.
+      ends-number s b _ (number-known b (number-within s a x b f).1) (λ c d i.
+      ends-number s d _ (number-known d (number-within s b c d i).1) (λ len l j.
+      ends-number s l _ (number-known l (number-within s d len l j).1) (λ weight w k.
       record { ends = tt })))))
 
   anchors-fault : (g : Graph) (read : List ℕ) (left : ℕ) (last : Anchor) (at : ℕ) → at ≤ length s
@@ -162,14 +162,14 @@ whole_ends g s most short =
     ends-refuse (pick (eqb kind anchor_kind) 0 wrong_kind) 0 _
     (λ n. made _ 0 (told-pick (eqb kind anchor_kind) 0 wrong_kind none (low wrong_kind (omega arith) (omega arith))) n (omega arith))
     (λ y.
-    let u : a.at ≤ length s = (number-within s 0 kind a e).1 in
-    ends-number s a.at _ (number-known s most short a.at u) (λ r b f.
-    ends-refuse (read_fault r) a.at _ (λ n. made _ a.at (ruled_told _ (range_ruled 1 most_read r)) n (omega arith)) (λ x.
-    ends_then (letters_from r s b.at) _ (letters-fault s most short r b.at (number-within s a.at r b f).1) (λ read i v.
-    ends-number s (b.at + r) _ (number-known s most short (b.at + r) v) (λ n c j.
-    ends-refuse (anchor_count_fault n) (b.at + r) _ (λ m. made _ (b.at + r) (ruled_told _ (range_ruled 0 most_anchors n)) m (omega arith)) (λ w.
-    ends_then (anchors_from g read n no_anchor s c.at) _
-    (anchors-fault s most short g read n no_anchor c.at (number-within s (b.at + r) n c j).1)
+    let u : a ≤ length s = (number-within s 0 kind a e).1 in
+    ends-number s a _ (number-known s most short a u) (λ r b f.
+    ends-refuse (read_fault r) a _ (λ n. made _ a (ruled_told _ (range_ruled 1 most_read r)) n (omega arith)) (λ x.
+    ends_then (letters_from r s b) _ (letters-fault s most short r b (number-within s a r b f).1) (λ read i v.
+    ends-number s (b + r) _ (number-known s most short (b + r) v) (λ n c j.
+    ends-refuse (anchor_count_fault n) (b + r) _ (λ m. made _ (b + r) (ruled_told _ (range_ruled 0 most_anchors n)) m (omega arith)) (λ w.
+    ends_then (anchors_from g read n no_anchor s c) _
+    (anchors-fault s most short g read n no_anchor c (number-within s (b + r) n c j).1)
     (λ p k l.
     ends-refuse (pick (eqb p.next (length s)) 0 left_over) p.next _
     (λ m. made _ p.next (told-pick (eqb p.next (length s)) 0 left_over none (high left_over (omega arith) (omega arith))) m (omega arith))

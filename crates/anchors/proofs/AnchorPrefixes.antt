@@ -28,14 +28,14 @@ module _ (s : List ℕ) (j : ℕ) (fits : j ≤ length s) where
   unfolding numbers_at
   numbers_cut at a e =
       let n = numbers-step s at a e in
-      let q : a ≡ record { anchor = a.anchor; weight_at = n.len_end.at; next = n.weight_end.at } =
+      let q : a ≡ record { anchor = a.anchor; weight_at = n.len_end; next = n.weight_end } =
       ap₂ (λ (w u : ℕ). record { anchor = a.anchor; weight_at = w; next = u }) n.weight_at n.next
       in
       cut_number s at j a.anchor.v n.v_end _ fits n.v_is (λ h.
-      cut_number s n.v_end.at j a.anchor.x n.x_end _ fits n.x_is (λ i.
-      cut_number s n.x_end.at j a.anchor.c n.c_end _ fits n.c_is (λ k.
-      cut_number s n.c_end.at j a.anchor.len n.len_end _ fits n.len_is (λ l.
-      cut_number s n.len_end.at j a.anchor.weight n.weight_end _ fits n.weight_is (λ m.
+      cut_number s n.v_end j a.anchor.x n.x_end _ fits n.x_is (λ i.
+      cut_number s n.x_end j a.anchor.c n.c_end _ fits n.c_is (λ k.
+      cut_number s n.c_end j a.anchor.len n.len_end _ fits n.len_is (λ l.
+      cut_number s n.len_end j a.anchor.weight n.weight_end _ fits n.weight_is (λ m.
       record { either = inl (omega (arith, n.next), ap good (sym q)) })))))
 
   anchors_cut : (g : Graph) (read : List ℕ) (left : ℕ) (last : Anchor) (at : ℕ) (r : Part (List Anchor)) → at ≤ j

@@ -10,7 +10,6 @@ use borrow.Author.Tests.{le-leb, eq-eqb}
 use Rattle.wire.specs.Found.{good}
 use Rattle.wire.specs.Numbers.{encode}
 use Rattle.wire.specs.Sizes.{anchor_kind, most_read, most_anchors}
-use Rattle.wire.specs.declared.numbers.Number.TheVariants.{Value}
 use Rattle.wire.proofs.NumberLaws.{number_suffix}
 use Rattle.graph.specs.Content.{Graph}
 use Rattle.graph.specs.Good.{All, Next, GoodGraph}
@@ -123,7 +122,7 @@ encoded_parts g a k h =
     let l : length s ≡ anchors_start a + length (encode_each a.anchors) = simp length-append (omega arith) in
     record {
       length_at = p;
-      kind_is = kind.0 ∙ ap (λ (j : ℕ). Value anchor_kind (record { at = j })) z;
+      kind_is = kind.0 ∙ ap (λ (j : ℕ). good (record { content = anchor_kind; next = j })) z;
       length_is = len.0;
       some_read = h.some_read;
       few_read = h.few_read;

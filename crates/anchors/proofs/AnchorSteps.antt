@@ -7,8 +7,6 @@ use native.Mathlib.Omega.{arith}
 use lib.ListN.{length}
 use Rattle.wire.specs.Found.{good, Part}
 use Rattle.wire.specs.Numbers.{number_at}
-use Rattle.wire.specs.declared.numbers.Cursor.{Cursor}
-use Rattle.wire.specs.declared.numbers.Number.TheVariants.{Value}
 use Rattle.wire.proofs.NumberLaws.{number-within}
 use Rattle.wire.proofs.Finding.{then_good, refuse-good, on-number, good-same}
 use Rattle.graph.specs.Content.{Graph}
@@ -18,27 +16,27 @@ use Rattle.anchors.specs.AnchorReading.{Numbers, numbers_at, anchors_from}
 
 -- the five numbers of an anchor, one after the other
 pub record NumbersStep (s : List ℕ) (at : ℕ) (a : Numbers) : Type 0 where
-  pub v_end : Cursor
-  pub x_end : Cursor
-  pub c_end : Cursor
-  pub len_end : Cursor
-  pub weight_end : Cursor
-  pub v_is : number_at s at ≡ Value a.anchor.v v_end
-  pub x_is : number_at s v_end.at ≡ Value a.anchor.x x_end
-  pub c_is : number_at s x_end.at ≡ Value a.anchor.c c_end
-  pub len_is : number_at s c_end.at ≡ Value a.anchor.len len_end
-  pub weight_is : number_at s len_end.at ≡ Value a.anchor.weight weight_end
-  pub weight_at : a.weight_at ≡ len_end.at
-  pub next : a.next ≡ weight_end.at
+  pub v_end : ℕ
+  pub x_end : ℕ
+  pub c_end : ℕ
+  pub len_end : ℕ
+  pub weight_end : ℕ
+  pub v_is : number_at s at ≡ good (record { content = a.anchor.v; next = v_end })
+  pub x_is : number_at s v_end ≡ good (record { content = a.anchor.x; next = x_end })
+  pub c_is : number_at s x_end ≡ good (record { content = a.anchor.c; next = c_end })
+  pub len_is : number_at s c_end ≡ good (record { content = a.anchor.len; next = len_end })
+  pub weight_is : number_at s len_end ≡ good (record { content = a.anchor.weight; next = weight_end })
+  pub weight_at : a.weight_at ≡ len_end
+  pub next : a.next ≡ weight_end
 
 -- the steps, from what was found of each number
-numbers-from : (s : List ℕ) (at : ℕ) (a : Numbers) (v x c len weight : ℕ) (p q r t u : Cursor)
-    → number_at s at ≡ Value v p
-    → number_at s p.at ≡ Value x q
-    → number_at s q.at ≡ Value c r
-    → number_at s r.at ≡ Value len t
-    → number_at s t.at ≡ Value weight u
-    → record { anchor = record { v = v; x = x; c = c; len = len; weight = weight }; weight_at = t.at; next = u.at } ≡ a
+numbers-from : (s : List ℕ) (at : ℕ) (a : Numbers) (v x c len weight : ℕ) (p q r t u : ℕ)
+    → number_at s at ≡ good (record { content = v; next = p })
+    → number_at s p ≡ good (record { content = x; next = q })
+    → number_at s q ≡ good (record { content = c; next = r })
+    → number_at s r ≡ good (record { content = len; next = t })
+    → number_at s t ≡ good (record { content = weight; next = u })
+    → record { anchor = record { v = v; x = x; c = c; len = len; weight = weight }; weight_at = t; next = u } ≡ a
     → NumbersStep s at a
 numbers-from s at a v x c len weight p q r t u v_is x_is c_is len_is weight_is e =
     subst (NumbersStep s at) e
@@ -61,10 +59,10 @@ pub numbers-step : (s : List ℕ) (at : ℕ) (a : Numbers) → numbers_at s at �
 unfolding numbers_at
 numbers-step s at a e =
     on-number s at _ a e (λ v p v_is e1.
-    on-number s p.at _ a e1 (λ x q x_is e2.
-    on-number s q.at _ a e2 (λ c r c_is e3.
-    on-number s r.at _ a e3 (λ len t len_is e4.
-    on-number s t.at _ a e4 (λ weight u weight_is e5.
+    on-number s p _ a e1 (λ x q x_is e2.
+    on-number s q _ a e2 (λ c r c_is e3.
+    on-number s r _ a e3 (λ len t len_is e4.
+    on-number s t _ a e4 (λ weight u weight_is e5.
     numbers-from s at a v x c len weight p q r t u v_is x_is c_is len_is weight_is (good-same _ a e5))))))
 
 -- an anchor takes at least a byte, and lies within the file
@@ -72,10 +70,10 @@ pub numbers-within : (s : List ℕ) (at : ℕ) (a : Numbers) → numbers_at s at
 numbers-within s at a e =
     let n = numbers-step s at a e in
     let v = number-within s at a.anchor.v n.v_end n.v_is in
-    let x = number-within s n.v_end.at a.anchor.x n.x_end n.x_is in
-    let c = number-within s n.x_end.at a.anchor.c n.c_end n.c_is in
-    let l = number-within s n.c_end.at a.anchor.len n.len_end n.len_is in
-    let w = number-within s n.len_end.at a.anchor.weight n.weight_end n.weight_is in
+    let x = number-within s n.v_end a.anchor.x n.x_end n.x_is in
+    let c = number-within s n.x_end a.anchor.c n.c_end n.c_is in
+    let l = number-within s n.c_end a.anchor.len n.len_end n.len_is in
+    let w = number-within s n.len_end a.anchor.weight n.weight_end n.weight_is in
     let p = n.weight_at in
     let q = n.next in
     (omega arith, omega arith, omega arith)

@@ -32,10 +32,10 @@ numbers_written : (s : List ℕ) (at : ℕ) (a : Anchor) (rest : List ℕ) (n : 
 numbers_written s at a rest n d e =
     let t = numbers-step s at n e in
     let v = value_written s at a.v _ n.anchor.v t.v_end (d ∙ numbers_joined a rest) t.v_is in
-    let x = value_written s t.v_end.at a.x _ n.anchor.x t.x_end v.1 t.x_is in
-    let c = value_written s t.x_end.at a.c _ n.anchor.c t.c_end x.1 t.c_is in
-    let l = value_written s t.c_end.at a.len _ n.anchor.len t.len_end c.1 t.len_is in
-    let w = value_written s t.len_end.at a.weight rest n.anchor.weight t.weight_end l.1 t.weight_is in
+    let x = value_written s t.v_end a.x _ n.anchor.x t.x_end v.1 t.x_is in
+    let c = value_written s t.x_end a.c _ n.anchor.c t.c_end x.1 t.c_is in
+    let l = value_written s t.c_end a.len _ n.anchor.len t.len_end c.1 t.len_is in
+    let w = value_written s t.len_end a.weight rest n.anchor.weight t.weight_end l.1 t.weight_is in
     (same n.anchor v.0 x.0 c.0 l.0 w.0, ap (λ (j : ℕ). drop j s) t.next ∙ w.1)
   where
     same : (b : Anchor) → b.v ≡ a.v → b.x ≡ a.x → b.c ≡ a.c → b.len ≡ a.len → b.weight ≡ a.weight → b ≡ a

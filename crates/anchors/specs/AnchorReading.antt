@@ -1,7 +1,8 @@
 -- What reading an anchor file over an accepted graph finds: its content, or the first fault. s is the file, `at` a place in it.
 use Rattle.std.specs.Prelude.{ℕ, zero, suc, ◌+◌, List, [], ◌∷◌, length, leb, eqb}
 use Rattle.wire.specs.Cases.{pick}
-use Rattle.wire.specs.Found.{Found, good, Part, and_then, number, refuse}
+use Rattle.wire.specs.Found.{Found, good, Part, and_then, refuse}
+use Rattle.wire.specs.Numbers.{number}
 use Rattle.wire.specs.Refusals.{wrong_kind, out_of_range, left_over}
 use Rattle.wire.specs.Sizes.{anchor_kind, most_file_bytes}
 use Rattle.graph.specs.Content.{Graph}

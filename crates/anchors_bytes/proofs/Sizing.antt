@@ -1,7 +1,7 @@
 -- The encoding of what stands in the used places, part after part, and its length.
 -- Assumes nothing.
 use Prim.Native.Nat.{ℕ, zero, suc, ◌+◌, ◌*◌, ◌≤◌}
-use mathlib.Core.Path.{◌≡◌, refl, sym, ap, ◌∙◌}
+use mathlib.Core.Path.{◌≡◌, refl, ap, ◌∙◌}
 use mathlib.Core.List.{List, ◌++◌}
 use native.Mathlib.Omega.{arith}
 use lib.ListN.{length, take, length-append}
@@ -10,8 +10,6 @@ use Rattle.graph.specs.Entries.{numbers_in}
 use Rattle.wire.specs.Numbers.{encode}
 use Rattle.wire.specs.Sizes.{anchor_kind}
 use Rattle.graph.specs.Encode.{encode_numbers}
-use Rattle.wire.specs.Lent.{front}
-use Rattle.graph_bytes.proofs.Along.{Along}
 use Rattle.anchors.specs.Anchors.{per_anchor}
 use Rattle.anchors.specs.AnchorBytes.{encode_each, encode_anchors}
 use Rattle.anchors.specs.AnchorEntries.{AnchorsGiven, anchor_in, anchors_in, set_in}
@@ -35,33 +33,20 @@ each-numbers (suc left) i numbers =
     numbers_joined (anchor_in numbers i) (encode_each (anchors_in left (i + 1) numbers))
     ∙ simp (each-numbers left (i + 1) numbers, d, e, two, three, four)
 
--- the bytes of the content by the parts of the buffers: `read` is r, and `end` the place after the anchors' numbers
-module _ (c : AnchorsGiven) (read end : ℕ) (er : read ≡ c.r) (en : end ≡ per_anchor * c.n)
-    (hr : c.r ≤ length c.buffers.letters) (hn : per_anchor * c.n ≤ length c.buffers.anchors) where
-  bytes_parts : encode_anchors (set_in c)
+-- the bytes of the content by the parts of the buffers
+module _ (c : AnchorsGiven) (hr : c.r ≤ length c.buffers.letters) (hn : per_anchor * c.n ≤ length c.buffers.anchors) where
+  pub bytes_parts : encode_anchors (set_in c)
       ≡ encode anchor_kind
       ++ (encode c.r
-      ++ (take read c.buffers.letters ++ (encode c.n ++ encode_numbers (take end c.buffers.anchors))))
+      ++ (take c.r c.buffers.letters ++ (encode c.n ++ encode_numbers (take (per_anchor * c.n) c.buffers.anchors))))
   bytes_parts =
       set-bytes c
       ∙ simp (
-        er,
-        en,
         each-numbers c.n 0 c.buffers.anchors,
         numbers_part c.r 0 c.buffers.letters (omega arith),
         numbers_part (per_anchor * c.n) 0 c.buffers.anchors (omega arith),
       )
 
-  -- the kind is written, the rest is still to be
-  pub kind_along : (old out : List ℕ) (n : ℕ) → length (encode_anchors (set_in c)) ≤ length old → n ≡ length (encode anchor_kind)
-      → out ≡ front (encode anchor_kind) old
-      → Along (encode_anchors (set_in c))
-      (encode c.r ++ (take read c.buffers.letters ++ (encode c.n ++ encode_numbers (take end c.buffers.anchors))))
-      old out n
-  kind_along old out n h e f = record { done = encode anchor_kind; count = e; joined = sym bytes_parts; same = f; room = h }
-
--- and how many they are
-pub bytes-length : (c : AnchorsGiven) → c.r ≤ length c.buffers.letters → per_anchor * c.n ≤ length c.buffers.anchors
-    → length (encode_anchors (set_in c)) ≡ size_in c.r c.n c.buffers.anchors
-bytes-length c hr hn =
-    ap length (bytes_parts c c.r (per_anchor * c.n) refl refl hr hn) ∙ simp (length-append, length-take-le c.r c.buffers.letters hr)
+  -- and how many they are
+  pub bytes-length : length (encode_anchors (set_in c)) ≡ size_in c.r c.n c.buffers.anchors
+  bytes-length = ap length bytes_parts ∙ simp (length-append, length-take-le c.r c.buffers.letters hr)

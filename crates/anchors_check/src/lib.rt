@@ -2,19 +2,19 @@
 #![tactic(auto)]
 
 ghost use Rattle.std.specs.Prelude.{◌≡◌};
+ghost use Rattle.wire.specs.Found.{found, replied};
 ghost use Rattle.anchors.specs.AnchorReading.{anchors_of};
 ghost use Rattle.anchors.specs.AnchorEntries.{both_reply};
-ghost use Rattle.anchors_check.specs.CheckedAnchors.{checked_anchors_of, checked_both_of, anchors_refused, graph_file_refused, anchor_file_refused};
-ghost use Rattle.anchors_parts.specs.LabelTables.{LabelTables, content_of};
+ghost use Rattle.anchors_check.specs.CheckedAnchors.{checked_anchors_of, checked_both_of};
+ghost use Rattle.anchors_parts.specs.LabelTables.{content_of};
 
 use anchors_head::read_head;
 use anchors_parts::each::check_each;
-use anchors_parts::labels::{label_places, label_table};
-use graph_check::{Checked, check_graph};
+use anchors_parts::labels::Labels;
+use graph_check::{Sections, check_graph};
 use graph_parts::counts::read_count;
 use graph_parts::labels::check_letters;
-use wire::numbers::Number;
-use wire::refusals::{ANCHOR_FILE, GRAPH_FILE, LEFT_OVER, OUT_OF_RANGE};
+use wire::refusals::{Fault, File, FileFault, Refusal};
 use wire::sizes::{MOST_ANCHORS, MOST_FILE_BYTES};
 
 // r and N of an accepted file, and the places where the read's letters and the anchors start.
@@ -26,105 +26,34 @@ pub struct AnchorSections {
     pub anchors: usize,
 }
 
-// What the check of an anchor file over an accepted graph finds: its sections, or the number and the place of the first fault.
-#[derive(Clone, Copy)]
-pub enum CheckedAnchors {
-    Accepted(AnchorSections),
-    Fault(u32, usize),
-}
-
-// What the check of both files finds: the sections of both, or the number, the file and the place of the first fault.
-#[derive(Clone, Copy)]
-pub enum CheckedBoth {
-    Accepted(graph_check::Sections, AnchorSections),
-    Refused(u32, u32, usize),
-}
-
-// A fault as the answer of a check.
-fn anchors_refused(got: Number) -> CheckedAnchors
-    ensures { result ≡ anchors_refused got }
-{
-    match got {
-        Number::Value(_, c) => CheckedAnchors::Fault(0, c.at),
-        Number::Fault(k, place) => CheckedAnchors::Fault(k, place),
-    }
-}
-
-// The check of one anchor file over a graph file that is accepted and has n vertices, whose labels the tables find (see labels::label_places).
-pub fn check_over(
-    graph: &[u8],
-    file: &[u8],
-    n: u32,
-    starts: &[u32],
-    lengths: &[u32],
-) -> CheckedAnchors
-    requires { LabelTables graph.now n starts.now lengths.now }
-    ensures { result ≡ checked_anchors_of (anchors_of (content_of graph.now) file.now) }
+// The check of one anchor file over the labels of an accepted graph file: its sections, or the first fault.
+pub fn check_over(labels: &Labels<'_>, file: &[u8]) -> Result<AnchorSections, Fault>
+    ensures { found result ≡ checked_anchors_of (anchors_of (content_of labels.now) file.now) }
 {
     if MOST_FILE_BYTES < file.len() {
-        return CheckedAnchors::Fault(OUT_OF_RANGE, MOST_FILE_BYTES);
+        return Err(Refusal::OutOfRange.at(MOST_FILE_BYTES));
     }
-    let head = read_head(file);
-    let Number::Value(r, b) = head else {
-        return anchors_refused(head);
-    };
-    let letters = check_letters(file, b, r);
-    let Number::Value(_, c) = letters else {
-        return anchors_refused(letters);
-    };
-    let third = read_count(file, c, 0, MOST_ANCHORS);
-    let Number::Value(count, d) = third else {
-        return anchors_refused(third);
-    };
-    let each = check_each(graph, n, starts, lengths, file, b.at, r, count, d.at);
-    let Number::Value(_, e) = each else {
-        return anchors_refused(each);
-    };
-    if e.at != file.len() {
-        return CheckedAnchors::Fault(LEFT_OVER, e.at);
+    let (r, read) = read_head(file)?;
+    let (_, next) = check_letters(file, read, r)?;
+    let (n, anchors) = read_count(file, next, 0, MOST_ANCHORS)?;
+    let (_, end) = check_each(labels, &file[read.at..next.at], file, n, anchors)?;
+    if end.at != file.len() {
+        return Err(Refusal::LeftOver.at(end.at));
     }
-    CheckedAnchors::Accepted(AnchorSections {
-        r: r,
-        read: b.at,
-        n: count,
-        anchors: d.at,
+    Ok(AnchorSections {
+        r,
+        read: read.at,
+        n,
+        anchors: anchors.at,
     })
 }
 
-// A fault of the graph file as the answer on both.
-fn graph_file_refused(got: Checked) -> CheckedBoth
-    ensures { result ≡ graph_file_refused got }
+// The check of both files, the whole graph file first: the sections of both, or the first fault.
+pub fn check_anchors(graph: &[u8], file: &[u8]) -> Result<(Sections, AnchorSections), FileFault>
+    ensures { replied result ≡ checked_both_of (both_reply graph.now file.now) }
 {
-    match got {
-        Checked::Accepted(g) => CheckedBoth::Refused(0, GRAPH_FILE, g.labels),
-        Checked::Fault(k, place) => CheckedBoth::Refused(k, GRAPH_FILE, place),
-    }
-}
-
-// A fault of the anchor file as the answer on both.
-fn anchor_file_refused(got: CheckedAnchors) -> CheckedBoth
-    ensures { result ≡ anchor_file_refused got }
-{
-    match got {
-        CheckedAnchors::Accepted(a) => CheckedBoth::Refused(0, ANCHOR_FILE, a.read),
-        CheckedAnchors::Fault(k, place) => CheckedBoth::Refused(k, ANCHOR_FILE, place),
-    }
-}
-
-// The check of both files, the whole graph file first.
-pub fn check_anchors(graph: &[u8], file: &[u8]) -> CheckedBoth
-    ensures { result ≡ checked_both_of (both_reply graph.now file.now) }
-{
-    let first = check_graph(graph);
-    let Checked::Accepted(g) = first else {
-        return graph_file_refused(first);
-    };
-    let mut starts = label_table();
-    let mut lengths = label_table();
-    label_places(graph, g.labels, g.n, &mut starts, &mut lengths);
-    let second = check_over(graph, file, g.n, &starts, &lengths);
-    let CheckedAnchors::Accepted(a) = second else {
-        return anchor_file_refused(second);
-    };
-    CheckedBoth::Accepted(g, a)
+    let g = check_graph(graph).map_err(|fault| fault.of(File::Graph))?;
+    let labels = Labels::of(graph, g.labels, g.n);
+    let a = check_over(&labels, file).map_err(|fault| fault.of(File::Anchors))?;
+    Ok((g, a))
 }

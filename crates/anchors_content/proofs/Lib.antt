@@ -1,4 +1,3 @@
 -- The laws of the first fault.
 pub mod Giving
 pub mod EachSteps
-pub mod ContentSteps

@@ -1,2 +1,3 @@
--- The first fault of the anchors that the writer is given.
+-- The content that the anchor writer is given, and the first fault of its anchors.
+pub mod Given
 pub mod FirstFaults

@@ -20,11 +20,11 @@ anchors-are g read (suc n) last s at r e =
     let t = anchors-step g read n last s at r e in
     let m = numbers-step s at t.first t.first_is in
     let v = number_is_lem s at _ m.v_end m.v_is in
-    let x = number_is_lem s m.v_end.at _ m.x_end m.x_is in
-    let c = number_is_lem s m.x_end.at _ m.c_end m.c_is in
-    let l = number_is_lem s m.c_end.at _ m.len_end m.len_is in
-    let w = number_is_lem s m.len_end.at _ m.weight_end m.weight_is in
-    let q : anchor_numbers t.rest.content ≡ (numbers_in s (per_anchor * n) m.weight_end.at).content =
+    let x = number_is_lem s m.v_end _ m.x_end m.x_is in
+    let c = number_is_lem s m.x_end _ m.c_end m.c_is in
+    let l = number_is_lem s m.c_end _ m.len_end m.len_is in
+    let w = number_is_lem s m.len_end _ m.weight_end m.weight_is in
+    let q : anchor_numbers t.rest.content ≡ (numbers_in s (per_anchor * n) m.weight_end).content =
     anchors-are g read n t.first.anchor s t.first.next t.rest t.rest_is
     ∙ ap (λ (k : ℕ). (numbers_in s (per_anchor * n) k).content) m.next in
     let k : per_anchor * suc n ≡ suc (suc (suc (suc (suc (per_anchor * n))))) = omega arith in

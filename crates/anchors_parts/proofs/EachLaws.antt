@@ -9,37 +9,51 @@ use native.Mathlib.Numerals.{sub-one}
 use lib.ListN.{get_or}
 use borrow.Author.Tests.{eq-eqb, ne_eqb}
 use Rattle.wire.specs.Found.{Found, good, fault, Part, and_then, refuse}
-use Rattle.wire.specs.Refusals.{not_rising}
+use Rattle.wire.specs.Refusals.{not_rising, code}
+use Rattle.wire.specs.declared.refusals.Refusal.{Refusal}
+use Rattle.wire.specs.declared.refusals.Refusal.TheVariants.{
+  BytesEnd,
+  BadNumber,
+  WrongKind,
+  OutOfRange,
+  NotLetter,
+  NoVertex,
+  NotRising,
+  NotEdge,
+  OnNoPath,
+  LeftOver,
+  Outside,
+  LettersDiffer,
+  SmallBuffer,
+  ShortOutput,
+}
 use Rattle.graph.specs.Content.{Graph}
 use Rattle.graph_parts.specs.Answers.{answered}
 use Rattle.graph_parts.proofs.Passing.{refuse-none, refuse-some, answered-more}
 use Rattle.anchors.specs.Anchors.{Anchor}
 use Rattle.anchors.specs.AnchorRules.{own_fault, key_below, anchor_fault, fault_place, no_anchor}
 use Rattle.anchors.specs.AnchorReading.{Numbers, numbers_at, anchors_from}
-use Rattle.anchors_rules.specs.OneAnchor.{anchor_of, five_of}
-use Rattle.anchors_rules.specs.declared.rules.Five.{Five}
-use Rattle.anchors_parts.specs.ReadAnchor.{read_five_of, numbers_after}
-use Rattle.anchors_parts.specs.declared.one.ReadFive.TheVariants.{Got, Fault}
+use Rattle.anchors_parts.specs.ReadAnchor.{numbers_after}
 use Rattle.anchors.proofs.AnchorSteps.{anchors-step}
 
--- ---- what was answered of an anchor's numbers was found
-
-pub five_good : (x : Found Numbers) {a : Five} {w n : ℕ} → read_five_of x ≡ Got a w n
-    → x ≡ good (record { anchor = anchor_of a; weight_at = w; next = n })
-five_good (good b) {a} {w} {n} e =
-    let p : five_of b.anchor ≡ a = cc in
-    let q : b.weight_at ≡ w = cc in
-    let r : b.next ≡ n = cc in
-    ap (λ (f : Five). good (record { anchor = anchor_of f; weight_at = b.weight_at; next = b.next })) p
-    ∙ ap (λ (k : ℕ). good (record { anchor = anchor_of a; weight_at = k; next = b.next })) q
-    ∙ ap (λ (k : ℕ). good (record { anchor = anchor_of a; weight_at = w; next = k })) r
-five_good (fault k p) e = let z : ◌≡◌ {A = ℕ} 0 1 = cc in absurd (omega arith)
-
-pub five_fault : (x : Found Numbers) {k p : ℕ} → read_five_of x ≡ Fault k p → x ≡ fault k p
-five_fault (good b) e = let z : ◌≡◌ {A = ℕ} 0 1 = cc in absurd (omega arith)
-five_fault (fault k p) e = cc
-
 -- ---- an anchor's fault
+
+-- no refusal has the number 0
+pub code-some : (r : Refusal) → code r ≡ 0 → ⊥
+code-some BytesEnd e = omega arith
+code-some BadNumber e = omega arith
+code-some WrongKind e = omega arith
+code-some OutOfRange e = omega arith
+code-some NotLetter e = omega arith
+code-some NoVertex e = omega arith
+code-some NotRising e = omega arith
+code-some NotEdge e = omega arith
+code-some OnNoPath e = omega arith
+code-some LeftOver e = omega arith
+code-some Outside e = omega arith
+code-some LettersDiffer e = omega arith
+code-some SmallBuffer e = omega arith
+code-some ShortOutput e = omega arith
 
 pub fault-own : (g : Graph) (read : List ℕ) (last a : Anchor) → (own_fault g read a ≡ 0 → ⊥) → anchor_fault g read last a ≡ own_fault g read a
 fault-own g read last a n = simp (ne_eqb (own_fault g read a) 0 n)

@@ -5,24 +5,24 @@ use mathlib.Core.Path.{◌≡◌, refl, sym, ap, ap₂, ◌∙◌}
 use mathlib.Core.List.{List, [], ◌∷◌, ◌++◌, map, append_assoc, append-nil}
 use native.Mathlib.Omega.{arith}
 use native.Mathlib.Nat.{add-zero, add_assoc}
-use lib.ListN.{length, get_or, take, drop, set, length-append, length-drop, length-replicate, get_or-append}
+use lib.ListN.{length, get_or, take, drop, set, length-append, length-drop, get_or-append}
 use lib.Seq.{append_snoc, drop-drop, drop-append_seam, take-append_seam}
-use Rattle.wire.specs.Found.{good}
+use Rattle.wire.specs.Found.{good, fault}
 use Rattle.wire.specs.Lent.{front}
 use Rattle.wire.specs.Numbers.{encode, number_at}
 use Rattle.wire.specs.Sizes.{most_file_bytes, full_lengths}
-use Rattle.wire.specs.declared.numbers.Cursor.{Cursor}
-use Rattle.wire.specs.declared.numbers.Number.{Number}
-use Rattle.wire.specs.declared.numbers.Number.TheVariants.{Value, Fault}
 use Rattle.wire.proofs.NumberLaws.{Bytes, number_suffix}
 use Rattle.wire.proofs.Encoding.{encode-some}
+use Rattle.wire.proofs.Reading.{read_same}
 use Rattle.wire.proofs.Putting.{put_one}
-use Rattle.graph.specs.Content.{lengths_of}
+use Rattle.graph.specs.Content.{lengths_of, vertex_count}
+use Rattle.graph.specs.Good.{All}
+use Rattle.graph.proofs.RoundTrips.{all_at}
 use Rattle.graph.specs.Encode.{encode_labels}
 use Rattle.graph.specs.Reading.{Parsed, graph_of}
 use Rattle.graph.proofs.Parted.{short_whole, parts}
 use Rattle.anchors.specs.AnchorRules.{label_of}
-use Rattle.anchors_parts.specs.LabelTables.{parsed_of, content_of, Accepts, starts_of, starts_in, LabelsAt, LabelTables, zeros}
+use Rattle.anchors_parts.specs.LabelTables.{parsed_of, content_of, Accepts, starts_of, starts_in, LabelsAt, LabelTables}
 
 -- ---- the definitions, opened once
 
@@ -161,7 +161,7 @@ pub record NextLabel (s : List ℕ) (todo : List (List ℕ)) (rest : List ℕ) (
   pub label : List ℕ
   pub others : List (List ℕ)
   pub todo_is : todo ≡ label ∷ others
-  pub reads : number_at s at ≡ Value (length label) (record { at = at + length (encode (length label)) })
+  pub reads : number_at s at ≡ good (record { content = length label; next = at + length (encode (length label)) })
   pub later : drop (at + length (encode (length label)) + length label) s ≡ encode_labels others ++ rest
   pub within : at + length (encode (length label)) + length label ≤ length s
 
@@ -217,19 +217,12 @@ module _ {s : List ℕ} {at₀ : ℕ} {labels : List (List ℕ)} {starts₀ leng
             (ap (λ (x : ℕ). map length done ++ (x ∷ [])) f ∙ sym (map_more done l));
       }
 
-pub label_told : {s : List ℕ} {todo : List (List ℕ)} {rest : List ℕ} {at : ℕ} (t : NextLabel s todo rest at) {got : Number} {len : ℕ} {c : Cursor}
-    → got ≡ number_at s at → got ≡ Value len c → (c.at ≡ at + length (encode (length t.label))) × (len ≡ length t.label)
-label_told t e f = let r = t.reads in (ap (λ (k : Cursor). k.at) (cursors (sym f ∙ e ∙ r)), values (sym f ∙ e ∙ r))
-  where
-    values : {x y : ℕ} {c d : Cursor} → Value x c ≡ Value y d → x ≡ y
-    values e = cc
+pub label_told : {s : List ℕ} {todo : List (List ℕ)} {rest : List ℕ} {at : ℕ} (t : NextLabel s todo rest at) {len : ℕ} {c : ℕ}
+    → good (record { content = len; next = c }) ≡ number_at s at → (len ≡ length t.label) × (c ≡ at + length (encode (length t.label)))
+label_told t e = read_same (e ∙ t.reads)
 
-    cursors : {x y : ℕ} {c d : Cursor} → Value x c ≡ Value y d → c ≡ d
-    cursors e = cc
-
-pub label_there : {s : List ℕ} {todo : List (List ℕ)} {rest : List ℕ} {at : ℕ} (t : NextLabel s todo rest at) {got : Number} {k p : ℕ}
-    → got ≡ number_at s at → got ≡ Fault k p → ⊥
-label_there t e f = let r = sym f ∙ e ∙ t.reads in let z : ◌≡◌ {A = ℕ} 0 1 = cc in omega arith
+pub label_there : {s : List ℕ} {todo : List (List ℕ)} {rest : List ℕ} {at : ℕ} (t : NextLabel s todo rest at) {k p : ℕ} → fault k p ≡ number_at s at → ⊥
+label_there t e = let r = e ∙ t.reads in let z : ◌≡◌ {A = ℕ} 0 1 = cc in omega arith
 
 none_left : (done todo labels : List (List ℕ)) → done ++ todo ≡ labels → length done ≡ length labels → done ≡ labels
 none_left done [] labels e h = sym (append-nil done) ∙ e
@@ -252,6 +245,7 @@ pub record LabelsStand (s : List ℕ) (at : ℕ) : Type 0 where
   pub short : length s ≤ most_file_bytes
   pub rest : List ℕ
   pub bytes : drop at s ≡ encode_labels (content_of s).labels ++ rest
+  pub some : All (λ l. 1 ≤ length l) (content_of s).labels
 
 pub labels_stand : (s : List ℕ) (at n : ℕ) → Bytes s → LabelsAt s at n → LabelsStand s at
 unfolding content_of
@@ -261,16 +255,13 @@ labels_stand s at n b h =
       short = (short_whole s (parsed_of s) h.accepted).0;
       rest = drop p.front.labels_end s;
       bytes = ap (λ (k : ℕ). drop k s) h.place ∙ p.front.labels_hold.bytes b;
+      some = p.front.labels_hold.some;
     }
 
 -- there is a place for each vertex
 pub few-vertices : (s : List ℕ) (at n : ℕ) → LabelsAt s at n → n ≤ full_lengths
 unfolding content_of
 few-vertices s at n h = omega (arith, h.count, (parts s (parsed_of s) h.accepted).front.few_vertices)
-
-pub length-zeros : (n : ℕ) → length (zeros n) ≡ n
-unfolding zeros
-length-zeros n = length-replicate {A = ℕ} n 0
 
 pub starts_in_lem : (s : List ℕ) (at : ℕ) → at ≡ (parsed_of s).labels_at → starts_of at (content_of s).labels ≡ starts_in s
 unfolding starts_in
@@ -297,6 +288,7 @@ pub record Finds (s starts lengths : List ℕ) (v : ℕ) : Type 0 where
   pub start : get_or starts (v - 1) 0 ≡ get_or (starts_in s) (v - 1) 0
   pub size : get_or lengths (v - 1) 0 ≡ length (label_of (content_of s) v)
   pub lies : Lies s (get_or starts (v - 1) 0) (label_of (content_of s) v)
+  pub within : get_or starts (v - 1) 0 + get_or lengths (v - 1) 0 ≤ length s
 
 pub tables_find : (s : List ℕ) (n : ℕ) (starts lengths : List ℕ) (v : ℕ) → Bytes s → LabelTables s n starts lengths → 1 ≤ v → v ≤ n
     → Finds s starts lengths v
@@ -309,6 +301,7 @@ tables_find s n starts lengths v b t h k =
     let q = front_at (map length ls) lengths (v - 1) t.sizes (rw (length-map ls) i) in
     let w = labels_stand s at n b (record { accepted = t.accepted; place = refl; count = t.count }) in
     let l = label_lies s at ls w.rest w.bytes (v - 1) i in
+    let m = lies_within s (get_or (starts_of at ls) (v - 1) 0) (get_or ls (v - 1) []) l (all_at (λ l. 1 ≤ length l) ls (v - 1) [] w.some i) in
     record {
       some = h;
       in_starts = p.0;
@@ -316,7 +309,33 @@ tables_find s n starts lengths v b t h k =
       start = p.1;
       size = q.1 ∙ lengths_at ls (v - 1);
       lies = record { after = l.after; bytes = ap (λ (j : ℕ). drop j s) p.1 ∙ l.bytes };
+      within = omega (arith, m, p.1, q.1, lengths_at ls (v - 1));
     }
+
+-- the part of the file that the tables give for vertex v is its label
+pub found_part : (s starts lengths : List ℕ) (v : ℕ) → Finds s starts lengths v
+    → take (get_or starts (v - 1) 0 + get_or lengths (v - 1) 0 - get_or starts (v - 1) 0) (drop (get_or starts (v - 1) 0) s) ≡ label_of (content_of s) v
+found_part s starts lengths v f =
+    let e : get_or starts (v - 1) 0 + get_or lengths (v - 1) 0 - get_or starts (v - 1) 0 ≡ length (label_of (content_of s) v) = omega (arith, f.size) in
+    rw e (lies_part s (get_or starts (v - 1) 0) (label_of (content_of s) v) f.lies)
+
+-- the same of a vertex of a file that is the same
+pub labels_find : (s t : List ℕ) (n : ℕ) (starts lengths : List ℕ) (v : ℕ) → Bytes s × LabelTables s n starts lengths → s ≡ t → 1 ≤ v
+    → v ≤ vertex_count (content_of t) → Finds s starts lengths v
+labels_find s t n starts lengths v (b, h) e k m = tables_find s n starts lengths v b h k (omega (arith, h.count, ap (λ (u : List ℕ). vertex_count (content_of u)) e))
+
+pub start_found : (s t : List ℕ) (n : ℕ) (starts lengths : List ℕ) (v : ℕ) → LabelTables s n starts lengths → s ≡ t → 1 ≤ v
+    → v ≤ vertex_count (content_of t) → get_or starts (v - 1) 0 ≡ get_or (starts_in t) (v - 1) 0
+unfolding starts_in
+start_found s t n starts lengths v h e k m =
+    let ls : List (List ℕ) = (content_of s).labels in
+    let at : ℕ = (parsed_of s).labels_at in
+    let i : v - 1 < length ls = omega (arith, ap (λ (u : List ℕ). vertex_count (content_of u)) e) in
+    (front_at (starts_of at ls) starts (v - 1) h.places (rw (length-starts at ls) i)).1 ∙ ap (λ (u : List ℕ). get_or (starts_of (parsed_of u).labels_at (content_of u).labels) (v - 1) 0) e
+
+-- there is a place for each vertex
+pub few_found : (s t : List ℕ) (n : ℕ) (starts lengths : List ℕ) → LabelTables s n starts lengths → s ≡ t → vertex_count (content_of t) ≤ full_lengths
+few_found s t n starts lengths h e = omega (arith, h.count, few-vertices s (parsed_of s).labels_at n (record { accepted = h.accepted; place = refl; count = h.count }), ap (λ (u : List ℕ). vertex_count (content_of u)) e)
 
 -- the tables, as they are filled, are those of the file
 pub tables-made : (s : List ℕ) (at n : ℕ) (starts lengths starts₀ lengths₀ : List ℕ) → LabelsAt s at n
@@ -331,11 +350,30 @@ tables-made s at n starts lengths starts₀ lengths₀ h e f = record {
     fronted : (xs d t : List ℕ) → t ≡ front xs d → t ≡ front xs t
     fronted xs d t e = e ∙ ap (λ (u : List ℕ). xs ++ u) (sym (ap (drop (length xs)) e ∙ drop-append_seam xs (drop (length xs) d)))
 
--- a filled table of starts at a vertex
-pub starts-front : (s : List ℕ) (at n v : ℕ) (d : List ℕ) → LabelsAt s at n → 1 ≤ v → v ≤ n
-    → get_or (front (starts_in s) d) (v - 1) 0 ≡ get_or (starts_in s) (v - 1) 0
-unfolding starts_in
-starts-front s at n v d h k m =
-    let e = length-starts (parsed_of s).labels_at (content_of s).labels in
-    get_or-append (starts_of (parsed_of s).labels_at (content_of s).labels) (drop (length (starts_of (parsed_of s).labels_at (content_of s).labels)) d) 0 (v - 1)
-    (omega (arith, h.count))
+-- ---- the loop that fills them
+
+module _ {s : List ℕ} {at n : ℕ} (b : Bytes s) (h : LabelsAt s at n) {starts₀ lengths₀ : List ℕ} where
+  pub filling_none : Placing s at (content_of s).labels starts₀ lengths₀ starts₀ lengths₀ 0 at
+  filling_none = let k = labels_stand s at n b h in placing_none s at (content_of s).labels starts₀ lengths₀ k.rest k.bytes
+
+  module _ {starts lengths : List ℕ} {i next : ℕ} (p : Placing s at (content_of s).labels starts₀ lengths₀ starts lengths i next) where
+    next_is : i < n → NextLabel s p.todo p.rest next
+    next_is j = placing_next p (labels_stand s at n b h).short (omega (arith, h.count))
+
+    -- the next label's length is there, and its letters are in the file
+    pub filling_stop : i < n → {k q : ℕ} → fault k q ≡ number_at s next → ⊥
+    filling_stop j e = label_there (next_is j) e
+
+    pub filling_fits : i < n → {len start : ℕ} → good (record { content = len; next = start }) ≡ number_at s next → start + len ≤ most_file_bytes
+    filling_fits j e = let t = label_told (next_is j) e in omega (arith, t, (next_is j).within, (labels_stand s at n b h).short)
+
+    pub filling_more : i < n → i < length starts₀ → i < length lengths₀ → {len start : ℕ} → good (record { content = len; next = start }) ≡ number_at s next
+        → Placing s at (content_of s).labels starts₀ lengths₀ (set starts i start) (set lengths i len) (i + 1) (start + len)
+    filling_more j k l {len} {start} e =
+        let t = label_told (next_is j) e in
+        placing_more p (labels_stand s at n b h).short start len (next_is j) k l t.1 t.0
+
+    pub filling-done : i ≡ n → (starts ≡ front (starts_in s) starts₀) × (lengths ≡ front (lengths_of (content_of s)) lengths₀)
+    filling-done e =
+        let t = placing_done p (omega (arith, h.count)) in
+        (t.0 ∙ ap (λ (x : List ℕ). front x starts₀) (starts_in_lem s at h.place), t.1)

@@ -1,4 +1,3 @@
 -- The laws of the labels' places, of one anchor and of the anchors one after the other.
 pub mod LabelLaws
-pub mod OneLaws
 pub mod EachLaws

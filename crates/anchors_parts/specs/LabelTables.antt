@@ -1,5 +1,5 @@
 -- Where the labels lie in an accepted graph file: what the check of an anchor file goes by.
-use Rattle.std.specs.Prelude.{ℕ, ◌+◌, ◌≡◌, List, [], ◌∷◌, length, replicate}
+use Rattle.std.specs.Prelude.{ℕ, ◌+◌, ◌≡◌, ◌<◌, List, [], ◌∷◌, length, get_or}
 use Rattle.wire.specs.Found.{Found, good, fault}
 use Rattle.wire.specs.Lent.{front}
 use Rattle.wire.specs.Numbers.{encode}
@@ -50,7 +50,3 @@ pub record LabelTables (s : List ℕ) (n : ℕ) (starts lengths : List ℕ) : Ty
   pub count : n ≡ vertex_count (content_of s)
   pub places : starts ≡ front (starts_in s) starts
   pub sizes : lengths ≡ front (lengths_of (content_of s)) lengths
-
--- a table of n places that hold 0
-unfoldable pub zeros : ℕ → List ℕ
-zeros n = replicate n 0

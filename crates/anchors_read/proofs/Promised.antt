@@ -1,33 +1,41 @@
 -- From what the check of both files finds to the reader's promise: what the fills may rely on, and what each way through the reader answers.
 -- Assumes nothing.
 use Prim.Native.Nat.{ℕ, ◌+◌, ◌*◌, ◌≤◌}
-use mathlib.Core.Path.{◌≡◌, refl, sym, ◌∙◌}
+use mathlib.Core.Path.{◌≡◌, refl, sym, ap, ◌∙◌}
 use mathlib.Core.List.{List}
-use mathlib.Core.Bool.{true, false}
-use native.Mathlib.Omega.{arith}
+use mathlib.Core.Bool.{Bool, true, false}
 use lib.ListN.{length, take, drop}
 use Rattle.wire.specs.Found.{Reply, accepted, refused}
 use Rattle.wire.specs.Lent.{laid}
 use Rattle.wire.specs.Refusals.{small_buffer}
 use Rattle.wire.specs.Sizes.{most_read, most_anchors, full_letters, full_anchors}
+use Rattle.graph_check.specs.Checked.{sections_of}
 use Rattle.graph_check.specs.declared.Sections.{Sections}
 use Rattle.graph_fill.specs.Filling.{numbers_in}
 use Rattle.graph_fill.proofs.Decoding.{letters-are}
 use Rattle.anchors.specs.Anchors.{per_anchor, anchor_numbers}
-use Rattle.anchors.specs.AnchorEntries.{Both, both_reply, AnchorBuffers, roomy_anchors, read_anchors_reply, filled_anchors}
+use Rattle.anchors.specs.AnchorEntries.{Both, both_reply, AnchorBuffers, room_for_anchors, roomy_anchors, read_anchors_reply, filled_anchors}
 use Rattle.anchors_check.specs.CheckedAnchors.{anchor_sections_of, checked_both_of}
 use Rattle.anchors_check.specs.declared.AnchorSections.{AnchorSections}
-use Rattle.anchors_check.specs.declared.CheckedBoth.TheVariants.{Accepted, Refused}
 use Rattle.anchors.proofs.AnchorAccepting.{anchor_parts}
 use Rattle.anchors.proofs.BothFiles.{both-taken}
 use Rattle.anchors_read.specs.declared.AnchorsAnswer.{AnchorsAnswer}
 use Rattle.anchors_read.specs.Answer.{answer_of, counts_answer, Answered}
 use Rattle.anchors_fill.proofs.Taking.{anchors-are}
 
+-- the buffers as they were lent
+abbrev pub lent : List ℕ → List ℕ → AnchorBuffers
+lent letters anchors = record { letters = letters; anchors = anchors }
+
+-- what the room test says
+pub room : (b : AnchorBuffers) {t d : Bool} → t ≡ room_for_anchors (length b.letters) (length b.anchors) → t ≡ d → roomy_anchors b ≡ d
+unfolding roomy_anchors
+room b e f = sym e ∙ f
+
 -- ---- refusals
 
-pub refusal_found : (x : Reply Both) (k f place : ℕ) → checked_both_of x ≡ Refused k f place → x ≡ refused k f place
-refusal_found (accepted p) k f place e = let z : ◌≡◌ {A = ℕ} 0 1 = cc in absurd (omega arith)
+pub refusal_found : (x : Reply Both) (k f place : ℕ) → checked_both_of x ≡ refused k f place → x ≡ refused k f place
+refusal_found (accepted p) k f place e = absurd (cc)
 refusal_found (refused j h at) k f place e = cc
 
 module _ (graph file : List ℕ) (b : AnchorBuffers) where
@@ -48,10 +56,12 @@ module _ (graph file : List ℕ) (b : AnchorBuffers) where
 
 -- ---- acceptance
 
-acceptance_found : (x : Reply Both) (g : Sections) (a : AnchorSections) → checked_both_of x ≡ Accepted g a
+acceptance_found : (x : Reply Both) (g : Sections) (a : AnchorSections) → checked_both_of x ≡ accepted (g, a)
     → (p : Both) × (x ≡ accepted p) × (a ≡ anchor_sections_of p.anchors)
-acceptance_found (accepted p) g a e = (p, refl, cc)
-acceptance_found (refused k f place) g a e = let z : ◌≡◌ {A = ℕ} 0 1 = cc in absurd (omega arith)
+acceptance_found (accepted p) g a e =
+    let q : ◌≡◌ {A = Sections × AnchorSections} (g, a) (sections_of p.graph, anchor_sections_of p.anchors) = cc in
+    (p, refl, ap (λ (t : Sections × AnchorSections). t.1) q)
+acceptance_found (refused k f place) g a e = absurd (cc)
 
 -- what an accepted anchor file's sections are, and that each has room
 pub record Ready (graph file : List ℕ) (a : AnchorSections) : Type 0 where
@@ -78,7 +88,7 @@ ready_parts graph file p e =
       few_anchors = t.few_anchors;
     }
 
-pub ready : (graph file : List ℕ) (g : Sections) (a : AnchorSections) → checked_both_of (both_reply graph file) ≡ Accepted g a → Ready graph file a
+pub ready : (graph file : List ℕ) (g : Sections) (a : AnchorSections) → checked_both_of (both_reply graph file) ≡ accepted (g, a) → Ready graph file a
 ready graph file g a e =
     let t = acceptance_found (both_reply graph file) g a e in
     rw t.2 (ready_parts graph file t.0 t.1)
@@ -86,13 +96,13 @@ ready graph file g a e =
 -- both files are accepted, and each buffer was filled from its section
 module _ (graph file : List ℕ) (b : AnchorBuffers) (a : AnchorSections) (letters anchors : List ℕ) (r : AnchorsAnswer) where
   pub accepted-answered : roomy_anchors b ≡ true → Ready graph file a
-      → letters ≡ laid full_letters (take a.r (drop a.read file)) b.letters
+      → (from n : ℕ) → from ≡ a.read → n ≡ a.r → letters ≡ laid full_letters (take n (drop from file)) b.letters
       → anchors ≡ laid full_anchors (numbers_in file (per_anchor * a.n) a.anchors).content b.anchors
       → r ≡ counts_answer a
       → Answered graph file b (record { letters = letters; anchors = anchors }) r
   unfolding read_anchors_reply filled_anchors
-  accepted-answered h t e1 e2 q =
+  accepted-answered h t from n at long e1 e2 q =
       record {
         answer = q ∙ rw (h, t.found, t.same);
-        buffers = rw (h, t.found, e1, e2, t.read_is, t.anchors_are);
+        buffers = rw (h, t.found, e1, at, long, e2, t.read_is, t.anchors_are);
       }

@@ -3,12 +3,13 @@
 
 ghost use Rattle.std.specs.Prelude.{◌≡◌};
 ghost use Rattle.wire.specs.Found.{refused};
+ghost use Rattle.wire.specs.Refusals.{code};
 ghost use Rattle.anchors_read.specs.Answer.{answer_of, counts_answer, Answered};
 
-use anchors_check::{AnchorSections, CheckedBoth, check_anchors};
+use anchors_check::{AnchorSections, check_anchors};
 use anchors_fill::{fill_anchors, fill_read};
 use anchors_rules::rooms::roomy;
-use wire::refusals::SMALL_BUFFER;
+use wire::refusals::Refusal;
 
 // Number, file and place; then the counts of an accepted anchor file: letters of the read, and anchors.
 #[repr(C)]
@@ -22,13 +23,13 @@ pub struct AnchorsAnswer {
 }
 
 // A refusal: its other numbers are 0.
-fn refusal(number: u32, file: u32, place: u32) -> AnchorsAnswer
-    ensures { result ≡ answer_of (refused number file place) }
+fn refusal(number: Refusal, file: u32, place: u32) -> AnchorsAnswer
+    ensures { result ≡ answer_of (refused (code number) file place) }
 {
     AnchorsAnswer {
-        number: number,
-        file: file,
-        place: place,
+        number: u32::from(number),
+        file,
+        place,
         letters: 0,
         anchors: 0,
     }
@@ -60,13 +61,17 @@ pub fn read_anchors(
         result }
 {
     if !roomy(letters.len(), anchors.len()) {
-        return refusal(SMALL_BUFFER, 0, 0);
+        return refusal(Refusal::SmallBuffer, 0, 0);
     }
-    let found = check_anchors(graph, file);
-    match found {
-        CheckedBoth::Refused(number, fault, place) => refusal(number, fault, place as u32),
-        CheckedBoth::Accepted(_, a) => {
-            fill_read(file, a.read, a.r as usize, letters);
+    match check_anchors(graph, file) {
+        Err(found) => refusal(
+            found.fault.refusal,
+            u32::from(found.file),
+            found.fault.place as u32,
+        ),
+        Ok((_, a)) => {
+            let read = &file[a.read..a.read + a.r as usize];
+            fill_read(read, letters);
             fill_anchors(file, a.anchors, a.n as usize, anchors);
             acceptance(a)
         }

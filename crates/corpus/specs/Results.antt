@@ -4,7 +4,7 @@ use Rattle.graph.specs.Entries.{Buffers}
 use Rattle.anchors.specs.AnchorEntries.{AnchorBuffers}
 use Rattle.cover.specs.TableEntries.{TableBuffers}
 use Rattle.chain.specs.ChainEntries.{ChainBuffers, IsSweep, IsPlain}
-use Rattle.tables_make.specs.Made.{zeros}
+use Rattle.wire_lent.specs.Zeros.{zeros}
 use Rattle.tables.specs.Answer.{Answered as TablesAnswered}
 use Rattle.tables.specs.declared.TablesAnswer.{TablesAnswer}
 use Rattle.placing.specs.Answer.{Answered as ChainAnswered}

@@ -25,13 +25,13 @@ ghost use Rattle.graph.specs.Entries.{read_reply};
 ghost use Rattle.graph_read.specs.Answer.{answer_of as graph_answer};
 ghost use Rattle.anchors.specs.AnchorEntries.{read_anchors_reply};
 ghost use Rattle.anchors_read.specs.Answer.{answer_of as anchors_answer};
-ghost use Rattle.tables_make.specs.Made.{zeros};
 ghost use Rattle.corpus.specs.Results.{fresh_graph, fresh_anchors, TablesDigest, SameButRounds, Audited, ChainDigest};
 
 use anchors_read::{AnchorsAnswer, read_anchors};
-use caseinput::digest::{DIGEST_START, put_numbers};
+use caseinput::digest::DIGEST_START;
+use caseinput::entry::put_all;
 use caseinput::input::{read_file, read_kind};
-use compare::{Verdict, same_numbers, same_verdict};
+use compare::{Verdict, same_numbers};
 use graph_read::{GraphAnswer, read_graph};
 use placing::ChainAnswer;
 use plain_placing::plain;
@@ -39,7 +39,11 @@ use std::io;
 use std::io::{Read, Write};
 use sweep_placing::sweep;
 use tables::TablesAnswer;
-use tables_make::make::{cell_zeros, letter_zeros, number_zeros, path_zeros, vertex_zeros};
+use wire::sizes::{
+    FULL_ANCHORS, FULL_CHAIN, FULL_CLOSED, FULL_COUNTS, FULL_EDGES, FULL_LENGTHS, FULL_LETTERS,
+    FULL_PATHS, FULL_SCORES, FULL_TABLE,
+};
+use wire_lent::zeros;
 
 // What the entry for tables answered, and the digest of the tables.
 #[derive(Clone, Copy)]
@@ -56,77 +60,36 @@ struct Placed {
     agree: bool,
 }
 
-// Writes text.
-fn say(to: &mut impl Write, text: &[u8]) -> io::Result<()> {
-    to.write_all(text)
+// What a record has: both files and all results, or the graph file only.
+#[derive(Clone, Copy)]
+enum Kind {
+    Both,
+    Graph,
 }
 
-// Writes a number.
-fn say_number(to: &mut impl Write, x: u64) -> io::Result<()> {
-    write!(to, "{x}")
-}
-
-// Writes a number and a space.
-fn say_next(to: &mut impl Write, x: u32) -> io::Result<()> {
-    say_number(to, x as u64)?;
-    say(to, b" ")
+// A record's kind; 0 stands after the last record.
+fn kind_of(b: u8) -> Option<Kind> {
+    match b {
+        0 => None,
+        1 => Some(Kind::Both),
+        _ => Some(Kind::Graph),
+    }
 }
 
 // Writes the line of a refusal.
 fn say_refusal(to: &mut impl Write, v: Verdict) -> io::Result<()> {
-    say(to, b"refused ")?;
-    say_next(to, v.number)?;
-    say(to, b"file ")?;
-    say_next(to, v.file)?;
-    say(to, b"place ")?;
-    say_number(to, v.place as u64)?;
-    say(to, b"\n")
-}
-
-// Number, file and place of each entry's answer.
-fn graph_verdict(a: GraphAnswer) -> Verdict {
-    Verdict {
-        number: a.number,
-        file: a.file,
-        place: a.place,
-    }
-}
-
-fn tables_verdict(a: TablesAnswer) -> Verdict {
-    Verdict {
-        number: a.number,
-        file: a.file,
-        place: a.place,
-    }
-}
-
-fn anchors_verdict(a: AnchorsAnswer) -> Verdict {
-    Verdict {
-        number: a.number,
-        file: a.file,
-        place: a.place,
-    }
-}
-
-fn chain_verdict(a: ChainAnswer) -> Verdict
-    ensures { (result.number ≡ a.number) × (result.file ≡ a.file) × (result.place ≡ a.place) }
-{
-    Verdict {
-        number: a.number,
-        file: a.file,
-        place: a.place,
-    }
+    writeln!(to, "refused {} file {} place {}", v.number, v.file, v.place)
 }
 
 // Reads a graph file.
 fn graph_of(graph: &[u8]) -> GraphAnswer
     ensures { result ≡ graph_answer (read_reply graph.now fresh_graph) }
 {
-    let mut letters = letter_zeros();
-    let mut lengths = vertex_zeros();
-    let mut edges = number_zeros();
-    let mut paths = cell_zeros();
-    let mut counts = path_zeros();
+    let mut letters: [u8; FULL_LETTERS] = zeros();
+    let mut lengths: [u32; FULL_LENGTHS] = zeros();
+    let mut edges: [u32; FULL_EDGES] = zeros();
+    let mut paths: [u32; FULL_PATHS] = zeros();
+    let mut counts: [u32; FULL_COUNTS] = zeros();
     read_graph(
         graph,
         &mut letters,
@@ -141,32 +104,25 @@ fn graph_of(graph: &[u8]) -> GraphAnswer
 fn tables_of(graph: &[u8]) -> Tabled
     ensures { TablesDigest graph.now result.answer result.digest }
 {
-    let mut reach = cell_zeros();
-    let mut distance = cell_zeros();
-    let mut closed = vertex_zeros();
+    let mut reach: [u32; FULL_TABLE] = zeros();
+    let mut distance: [u32; FULL_TABLE] = zeros();
+    let mut closed: [u32; FULL_CLOSED] = zeros();
     let answer = tables::tables(graph, &mut reach, &mut distance, &mut closed);
-    let a = put_numbers(DIGEST_START, &reach);
-    let b = put_numbers(a, &distance);
-    let c = put_numbers(b, &closed);
+    let a = put_all(DIGEST_START, &reach);
+    let b = put_all(a, &distance);
+    let c = put_all(b, &closed);
     Tabled {
         answer: answer,
         digest: c,
     }
 }
 
-// A room of zeros for the five numbers of each anchor.
-fn anchor_number_zeros() -> [u32; 10240]
-    ensures { result ≡ zeros 10240 }
-{
-    [0u32; 10240]
-}
-
 // Reads an anchor file over a graph file.
 fn anchors_of(graph: &[u8], file: &[u8]) -> AnchorsAnswer
     ensures { result ≡ anchors_answer (read_anchors_reply graph.now file.now fresh_anchors) }
 {
-    let mut letters = letter_zeros();
-    let mut anchors = anchor_number_zeros();
+    let mut letters: [u8; FULL_LETTERS] = zeros();
+    let mut anchors: [u32; FULL_ANCHORS] = zeros();
     read_anchors(graph, file, &mut letters, &mut anchors)
 }
 
@@ -174,23 +130,10 @@ fn anchors_of(graph: &[u8], file: &[u8]) -> AnchorsAnswer
 fn same_placing(a: ChainAnswer, b: ChainAnswer) -> bool
     ensures { result ≡ true → SameButRounds a b }
 {
-    if a.anchors != b.anchors {
-        return false;
-    }
-    if a.score != b.score {
-        return false;
-    }
-    if a.length != b.length {
-        return false;
-    }
-    same_verdict(chain_verdict(a), chain_verdict(b))
-}
-
-// A room of zeros for scores, or for a chain.
-fn anchor_zeros() -> [u32; 2048]
-    ensures { result ≡ zeros 2048 }
-{
-    [0u32; 2048]
+    a.anchors == b.anchors
+        && a.score == b.score
+        && a.length == b.length
+        && Verdict::from(a) == Verdict::from(b)
 }
 
 // Makes the plain pass, and compares it with what the sweep gave.
@@ -203,28 +146,24 @@ fn plain_agrees(
 ) -> bool
     ensures { result ≡ true → Audited graph.now file.now swept (record { scores = scores.now; chain = chain.now }) }
 {
-    let mut own_scores = anchor_zeros();
-    let mut own_chain = anchor_zeros();
+    let mut own_scores: [u32; FULL_SCORES] = zeros();
+    let mut own_chain: [u32; FULL_CHAIN] = zeros();
     let answer = plain(graph, file, &mut own_scores, &mut own_chain);
-    if !same_placing(swept, answer) {
-        return false;
-    }
-    if !same_numbers(scores, &own_scores) {
-        return false;
-    }
-    same_numbers(chain, &own_chain)
+    same_placing(swept, answer)
+        && same_numbers(scores, &own_scores)
+        && same_numbers(chain, &own_chain)
 }
 
 // Places the anchors by the sweep, and again by the plain pass.
 fn place_twice(graph: &[u8], file: &[u8]) -> Placed
     ensures { ChainDigest graph.now file.now result.answer result.digest result.agree }
 {
-    let mut scores = anchor_zeros();
-    let mut chain = anchor_zeros();
+    let mut scores: [u32; FULL_SCORES] = zeros();
+    let mut chain: [u32; FULL_CHAIN] = zeros();
     let answer = sweep(graph, file, &mut scores, &mut chain);
     let agree = plain_agrees(graph, file, answer, &scores, &chain);
-    let a = put_numbers(DIGEST_START, &scores);
-    let b = put_numbers(a, &chain);
+    let a = put_all(DIGEST_START, &scores);
+    let b = put_all(a, &chain);
     Placed {
         answer: answer,
         digest: b,
@@ -234,43 +173,30 @@ fn place_twice(graph: &[u8], file: &[u8]) -> Placed
 
 // Whether the entry for tables answered as the graph file's reader.
 fn tables_agree(g: GraphAnswer, t: TablesAnswer) -> bool {
-    if g.vertices != t.vertices {
-        return false;
-    }
-    if g.paths != t.paths {
-        return false;
-    }
-    same_verdict(graph_verdict(g), tables_verdict(t))
+    g.vertices == t.vertices && g.paths == t.paths && Verdict::from(g) == Verdict::from(t)
 }
 
 // Whether the sweep answered as the anchor file's reader.
 fn sweep_agrees(a: AnchorsAnswer, p: ChainAnswer) -> bool {
-    if a.anchors != p.anchors {
-        return false;
-    }
-    same_verdict(anchors_verdict(a), chain_verdict(p))
+    a.anchors == p.anchors && Verdict::from(a) == Verdict::from(p)
 }
 
 // Writes the first seven numbers of a line.
 fn say_graph(to: &mut impl Write, g: GraphAnswer, t: TablesAnswer, digest: u64) -> io::Result<()> {
-    say_next(to, g.vertices)?;
-    say_next(to, g.letters)?;
-    say_next(to, g.edges)?;
-    say_next(to, g.paths)?;
-    say_next(to, t.reachrounds)?;
-    say_next(to, t.distancerounds)?;
-    say_number(to, digest)
+    write!(
+        to,
+        "{} {} {} {} {} {} {digest}",
+        g.vertices, g.letters, g.edges, g.paths, t.reachrounds, t.distancerounds
+    )
 }
 
 // Writes the other six numbers.
 fn say_chain(to: &mut impl Write, a: AnchorsAnswer, p: ChainAnswer, digest: u64) -> io::Result<()> {
-    say(to, b" ")?;
-    say_next(to, a.letters)?;
-    say_next(to, p.anchors)?;
-    say_next(to, p.score)?;
-    say_next(to, p.rounds)?;
-    say_next(to, p.length)?;
-    say_number(to, digest)
+    writeln!(
+        to,
+        " {} {} {} {} {} {digest}",
+        a.letters, p.anchors, p.score, p.rounds, p.length
+    )
 }
 
 // Answers a graph file, without the line's end, where the line may go on: true for an accepted one.
@@ -278,11 +204,11 @@ fn answer_graph(to: &mut impl Write, graph: &[u8]) -> io::Result<bool> {
     let g = graph_of(graph);
     let t = tables_of(graph);
     if !tables_agree(g, t.answer) {
-        say(to, b"the tables' answer differs\n")?;
+        to.write_all(b"the tables' answer differs\n")?;
         return Ok(false);
     }
     if g.number != 0 {
-        say_refusal(to, graph_verdict(g))?;
+        say_refusal(to, Verdict::from(g))?;
         return Ok(false);
     }
     say_graph(to, g, t.answer, t.digest)?;
@@ -294,30 +220,31 @@ fn answer_both(to: &mut impl Write, graph: &[u8], file: &[u8]) -> io::Result<()>
     let a = anchors_of(graph, file);
     let p = place_twice(graph, file);
     if !p.agree {
-        return say(to, b"the plain pass differs\n");
+        return to.write_all(b"the plain pass differs\n");
     }
     if !sweep_agrees(a, p.answer) {
-        return say(to, b"the sweep's answer differs\n");
+        return to.write_all(b"the sweep's answer differs\n");
     }
     if a.number != 0 {
-        return say_refusal(to, anchors_verdict(a));
+        return say_refusal(to, Verdict::from(a));
     }
     if answer_graph(to, graph)? {
         say_chain(to, a, p.answer, p.digest)?;
-        say(to, b"\n")?;
     }
     Ok(())
 }
 
 // Answers one case.
-fn answer(to: &mut impl Write, kind: u8, graph: &[u8], file: &[u8]) -> io::Result<()> {
-    if kind == 1 {
-        return answer_both(to, graph, file);
+fn answer(to: &mut impl Write, kind: Kind, graph: &[u8], file: &[u8]) -> io::Result<()> {
+    match kind {
+        Kind::Both => answer_both(to, graph, file),
+        Kind::Graph => {
+            if answer_graph(to, graph)? {
+                to.write_all(b"\n")?;
+            }
+            Ok(())
+        }
     }
-    if answer_graph(to, graph)? {
-        say(to, b"\n")?;
-    }
-    Ok(())
 }
 
 // A room for a file, one byte longer than any that is not too long.
@@ -329,7 +256,7 @@ fn file_room() -> [u8; 65537] {
 fn answer_after(
     from: &mut impl Read,
     to: &mut impl Write,
-    kind: u8,
+    kind: Kind,
     graph: &[u8],
 ) -> io::Result<()> {
     let mut file = file_room();
@@ -337,16 +264,11 @@ fn answer_after(
     answer(to, kind, graph, &file[..n])
 }
 
-// Reads one record and answers it; false at the end.
-fn answer_next(from: &mut impl Read, to: &mut impl Write) -> io::Result<bool> {
-    let kind = read_kind(from)?;
-    if kind == 0 {
-        return Ok(false);
-    }
+// Reads the files of a record, and answers it.
+fn answer_record(from: &mut impl Read, to: &mut impl Write, kind: Kind) -> io::Result<()> {
     let mut graph = file_room();
     let n = read_file(from, &mut graph)?;
-    answer_after(from, to, kind, &graph[..n])?;
-    Ok(true)
+    answer_after(from, to, kind, &graph[..n])
 }
 
 // Answers record after record: at most 1,000,000, so that it ends on any input.
@@ -354,9 +276,10 @@ fn main(rt: HostRuntime) -> io::Result<()> {
     let mut from = rt.stdin();
     let mut to = rt.stdout();
     for _ in 0..1000000 {
-        if !answer_next(&mut from, &mut to)? {
+        let Some(kind) = kind_of(read_kind(&mut from)?) else {
             break;
-        }
+        };
+        answer_record(&mut from, &mut to, kind)?;
     }
     Ok(())
 }

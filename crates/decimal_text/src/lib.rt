@@ -4,7 +4,7 @@
 ghost use Rattle.std.specs.Prelude.{◌≡◌, ◌≤◌, length};
 ghost use Rattle.wire.specs.Lent.{front};
 ghost use Rattle.decimal_text.specs.Decimal.{decimal};
-ghost use Rattle.decimal_text.specs.Words.{said, told};
+ghost use Rattle.decimal_text.specs.Words.{said, told, parts_in};
 
 use wire_letters::put_letters;
 
@@ -32,15 +32,16 @@ pub fn put_said(out: &mut [u8], word: &[u8], n: u32) -> usize
     at
 }
 
-// Writes a line of three words, each with its number.
-pub fn put_told(out: &mut [u8], u: &[u8], a: u32, v: &[u8], b: u32, w: &[u8], c: u32) -> usize
-    requires { length (told u.now a v.now b w.now c) ≤ length out.old }
-    ensures { (result ≡ length (told u.now a v.now b w.now c))
-        × (out.new ≡ front (told u.now a v.now b w.now c) out.old) }
+// Writes a line of words, each with its number.
+pub fn put_told(out: &mut [u8], parts: &[(&[u8], u32)]) -> usize
+    requires { length (told (parts_in parts.now)) ≤ length out.old }
+    ensures { (result ≡ length (told (parts_in parts.now)))
+        × (out.new ≡ front (told (parts_in parts.now)) out.old) }
 {
-    let mut at = put_said(out, u, a);
-    at += put_said(&mut out[at..], v, b);
-    at += put_said(&mut out[at..], w, c);
+    let mut at = 0;
+    for (word, n) in parts {
+        at += put_said(&mut out[at..], word, *n);
+    }
     out[at] = b'\n';
     at + 1
 }

@@ -1,96 +1,70 @@
-// The distance table: its rounds until one is quiet. In the rounds an entry is 0 where it is unknown, and d + 1 where it is d.
+// The rules of the distance table and of least walks. In the rounds an entry is 0 where it is unknown, and d + 1 where it is d.
 #![tactic(auto)]
 
-ghost use Rattle.std.specs.Prelude.{◌≡◌, ◌≢◌, ℕ, ◌+◌, ◌*◌, ◌≤◌, ◌<◌, length};
+ghost use Rattle.std.specs.Prelude.{◌≡◌, ◌+◌, ◌*◌, ◌≤◌, ◌<◌, ◌^◌, length};
 ghost use Rattle.wire.specs.Sizes.{table_row};
-ghost use Rattle.rounds.specs.Rounds.{Within, Rounds, sweep};
-ghost use Rattle.rounds.specs.Rule.{value};
+ghost use Rattle.rounds.specs.Rounds.{Within};
 ghost use Rattle.rounds.specs.Place.{cell_place};
 ghost use Rattle.rounds.specs.Table.{cell};
-ghost use Rattle.rounds.specs.Loop.{Told};
-ghost use Rattle.table_rows.specs.Lanes.{Lanes};
-ghost use Rattle.table_rows.specs.HeldEdges.{Linked};
-ghost use Rattle.table_rounds.specs.Held.{Fitting, Settling, near, near_row, near_round};
+ghost use Rattle.rounds.specs.Kinds.{shift, closer};
+ghost use Rattle.table_rows.specs.Lanes.{brought};
+ghost use Rattle.table_rounds.specs.Held.{label_length, near, onward, Fitting};
+ghost use Rattle.table_rounds.proofs.Following.{near_follows, onward_follows};
+ghost use Rattle.distance_rounds.specs.Reading.{CanStep, CanLevel, steps_on, levels_on};
 
-use table_lanes::{neared_row, row_at};
-use table_rows::rows::{store_row, wide};
+use table_lanes::EdgeRule;
+use table_rows::rows::{further, nearer, over_edge};
 use wire::sizes::ROW;
 
-// The row of vertex v: "distance the least of its own and u's distance plus L(u) over edges u to v whose reach cells are equal".
-fn distance_row(
-    table: &[u32],
-    reach: &[u32],
-    lengths: &[u32],
-    edges: &[u32],
-    heads: &[u32],
-    nexts: &[u32],
-    v: usize,
-) -> [u32; 16]
-    requires linked { Linked edges.now heads.now nexts.now }
-    requires heads_in_bounds { length heads.now ≤ length lengths.now }
-    requires table_len { (length table.now ≡ table_row * length heads.now) × (length reach.now ≡ table_row * length heads.now) }
-    requires fitting { Fitting (length heads.now) lengths.now table.now }
-    requires within { Within (length heads.now) v }
-    ensures { Lanes result (λ i. value (near (length nexts.now) lengths.now edges.now reach.now (i + 1)) (λ u. cell cell_place u (i + 1) table.now) v) }
-{
-    let own = ROW * (v - 1);
-    let mut row = row_at(table, own);
-    let mut e = wide(heads[v - 1]);
-    while e != 0 {
-        let u = wide(edges[2 * (e - 1)]);
-        let next = neared_row(row, table, reach, ROW * (u - 1), own, lengths[u - 1]);
-        row = next;
-        e = wide(nexts[e - 1]);
-    }
-    row
+// "distance the least of its own and u's distance plus L(u) over edges u to v whose reach cells are equal"
+#[derive(Drop)]
+pub struct Distance<'a> {
+    pub lengths: &'a [u32],
+    pub reach: &'a [u32],
 }
 
-// Makes one round, and says whether it changed anything.
-fn distance_round(
-    table: &mut [u32],
-    reach: &[u32],
-    lengths: &[u32],
-    edges: &[u32],
-    heads: &[u32],
-    nexts: &[u32],
-) -> bool
-    requires linked { Linked edges.now heads.now nexts.now }
-    requires heads_in_bounds { length heads.now ≤ length lengths.now }
-    requires table_len { (length table.old ≡ table_row * length heads.now) × (length reach.now ≡ table_row * length heads.now) }
-    requires by_index { (v : ℕ) → v < length heads.now → Fitting (length heads.now) lengths.now (sweep (near_row (length nexts.now) lengths.now edges.now reach.now) v table.old) }
-    ensures table_after { table.new ≡ near_round (length heads.now) (length nexts.now) lengths.now edges.now reach.now table.old }
-    ensures told { Told result (table.new ≢ table.old) (table.new ≡ table.old) }
-{
-    let mut changed = false;
-    for v in 0..heads.len() {
-        let row = distance_row(table, reach, lengths, edges, heads, nexts, v + 1);
-        if store_row(table, v + 1, row) {
-            changed = true;
-        }
+impl<'a> EdgeRule for Distance<'a> {
+    ghost rules = { λ s m edges. near m s.lengths.now edges s.reach.now };
+
+    ghost Fits = { λ s n table. (n ≤ length s.lengths.now) × (length s.reach.now ≡ table_row * n) × Fitting n s.lengths.now table };
+
+    ghost Can = { λ s i u v y. CanStep s.lengths.now u y × CanLevel s.reach.now i u v };
+
+    ghost take = { λ s i u v x y. closer x (brought y (label_length s.lengths.now u) (cell cell_place u i s.reach.now) (cell cell_place v i s.reach.now)) };
+
+    // The nearer of v's entry and of what the edge brings.
+    fn take(&self, i: usize, u: usize, v: usize, own: u32, there: u32) -> u32 {
+        let level = self.reach[ROW * (u - 1) + i];
+        let own_level = self.reach[ROW * (v - 1) + i];
+        nearer(own, over_edge(there, self.lengths[u - 1], level, own_level))
     }
-    changed
+
+    ghost fits = { λ s n table f i u v wi wu wv. (steps_on f.0 f.2 i u wi wu, levels_on f.1 i u v wi wu wv) };
+
+    ghost follows = { λ s m edges i. near_follows m s.lengths.now edges s.reach.now i };
 }
 
-// Makes rounds until one is quiet, and counts them all.
-pub fn settle_distance(
-    table: &mut [u32],
-    reach: &[u32],
-    lengths: &[u32],
-    edges: &[u32],
-    heads: &[u32],
-    nexts: &[u32],
-) -> u32
-    requires linked { Linked edges.now heads.now nexts.now }
-    requires heads_in_bounds { length heads.now ≤ length lengths.now }
-    requires table_len { (length table.old ≡ table_row * length heads.now) × (length reach.now ≡ table_row * length heads.now) }
-    requires settling { Settling (length heads.now) lengths.now (near (length nexts.now) lengths.now edges.now reach.now) table.old }
-    ensures { Rounds (near_round (length heads.now) (length nexts.now) lengths.now edges.now reach.now) table.old result table.new }
-{
-    let mut count = 0;
-    let mut changed = true;
-    while changed {
-        changed = distance_round(table, reach, lengths, edges, heads, nexts);
-        count += 1;
+// The least of its own and u's entry plus L(u) over all edges u to v: the rule of least walks.
+#[derive(Drop)]
+pub struct Walks<'a> {
+    pub lengths: &'a [u32],
+}
+
+impl<'a> EdgeRule for Walks<'a> {
+    ghost rules = { λ s m edges. onward m s.lengths.now edges };
+
+    ghost Fits = { λ s n table. (n ≤ length s.lengths.now) × Fitting n s.lengths.now table };
+
+    ghost Can = { λ s i u v y. CanStep s.lengths.now u y };
+
+    ghost take = { λ s i u v x y. closer x (shift y (label_length s.lengths.now u)) };
+
+    // The nearer of v's entry and of u's, further on.
+    fn take(&self, _i: usize, u: usize, _v: usize, own: u32, there: u32) -> u32 {
+        nearer(own, further(there, self.lengths[u - 1]))
     }
-    count
+
+    ghost fits = { λ s n table f i u v wi wu wv. steps_on f.0 f.1 i u wi wu };
+
+    ghost follows = { λ s m edges i. onward_follows m s.lengths.now edges i };
 }

@@ -8,30 +8,16 @@ use candidates::candidate;
 use pair_step::step::{graph_gap, read_gap};
 use std::io;
 use std::io::Write;
-use telling::{say, say_number};
-
-// Writes a signed number, of which the magnitude is below 1,000: the number that it is, or whose negative it is.
-fn say_signed(to: &mut impl Write, x: i64) -> io::Result<()> {
-    for size in 0..1000 {
-        if x == candidate(0, size, 0) {
-            return say_number(to, b" candidate ", size as u64);
-        }
-        if x == candidate(0, 0, size) {
-            return say_number(to, b" candidate -", size as u64);
-        }
-    }
-    Ok(())
-}
 
 // Writes the gaps, and the candidate where the first anchor's score and the third's weight are this weight.
 fn say_step(to: &mut impl Write, weight: u32, read: u32, graph: u32) -> io::Result<()>
     requires { (read < 1000) × (graph < 1000) }
 {
-    say_number(to, b"weights ", weight as u64)?;
-    say_number(to, b" read gap ", read as u64)?;
-    say_number(to, b" graph gap ", graph as u64)?;
-    say_signed(to, candidate(weight, weight, read + graph))?;
-    say(to, b"\n")
+    let one = candidate(weight, weight, read + graph);
+    writeln!(
+        to,
+        "weights {weight} read gap {read} graph gap {graph} candidate {one}"
+    )
 }
 
 // The first anchor ends at letter 2 of vertex 1 and at 2 on the read; the third starts at letter 1 of vertex 4 and at 5 on the read. The cover

@@ -69,7 +69,7 @@ pub record LabelsRead (left sum : ℕ) (s : List ℕ) (at : ℕ) (r : Part (List
   pub bytes : Bytes s → drop at s ≡ encode_labels r.content ++ drop r.next s
 
 labels-more : (left sum : ℕ) (s : List ℕ) (at : ℕ) (r : Part (List (List ℕ))) (t : LabelStep left sum s at r)
-    → LettersRead t.len s t.a.at t.label → LabelsRead left (sum + t.len) s (t.a.at + t.len) t.rest
+    → LettersRead t.len s t.a t.label → LabelsRead left (sum + t.len) s (t.a + t.len) t.rest
     → LabelsRead (suc left) sum s at r
 unfolding All encode_labels flatten
 labels-more left sum s at r t l i =
@@ -85,7 +85,7 @@ labels-more left sum s at r t l i =
       letters = (l.letters, i.letters);
       bytes = λ b.
           joined3 (drop at s) (encode (length t.label)) t.label (encode_labels t.rest.content)
-          (drop t.a.at s) (drop (t.a.at + t.len) s) (drop t.rest.next s)
+          (drop t.a s) (drop (t.a + t.len) s) (drop t.rest.next s)
           (rw l.count (number-value s at t.len t.a b t.len_is).suffix)
           l.bytes (i.bytes b);
     })
@@ -99,8 +99,8 @@ labels-read zero sum s at r h e =
 labels-read (suc left) sum s at r h e =
     let t = labels-step left sum s at r e in
     let w = number-within s at t.len t.a t.len_is in
-    let l = letters-read t.len s t.a.at t.label w.1 t.label_is in
-    labels-more left sum s at r t l (labels-read left (sum + t.len) s (t.a.at + t.len) t.rest l.within t.rest_is)
+    let l = letters-read t.len s t.a t.label w.1 t.label_is in
+    labels-more left sum s at r t l (labels-read left (sum + t.len) s (t.a + t.len) t.rest l.within t.rest_is)
 
 -- ---- edges
 
@@ -122,7 +122,7 @@ pub record EdgesRead (n left : ℕ) (last : Edge) (s : List ℕ) (at : ℕ) (r :
   pub bytes : Bytes s → drop at s ≡ encode_edges r.content ++ drop r.next s
 
 edges_more : (n left : ℕ) (last : Edge) (s : List ℕ) (at : ℕ) (r : Part (List Edge)) (t : EdgeStep n left last s at r)
-    → EdgesRead n left (record { from = t.u; to = t.v }) s t.b.at t.rest
+    → EdgesRead n left (record { from = t.u; to = t.v }) s t.b t.rest
     → EdgesRead n (suc left) last s at r
 unfolding All encode_edges
 edges_more n left last s at r t i =
@@ -138,9 +138,9 @@ edges_more n left last s at r t i =
       rise = next_more EdgeBelow last e t.rest.content k.2 i.rise;
       bytes = λ b.
           joined3 (drop at s) (encode t.u) (encode t.v) (encode_edges t.rest.content)
-          (drop t.a.at s) (drop t.b.at s) (drop t.rest.next s)
+          (drop t.a s) (drop t.b s) (drop t.rest.next s)
           (number-value s at t.u t.a b t.u_is).suffix
-          (number-value s t.a.at t.v t.b b t.v_is).suffix
+          (number-value s t.a t.v t.b b t.v_is).suffix
           (i.bytes b);
     })
 
@@ -151,8 +151,8 @@ edges-read n zero last s at r h e =
     rw (edges_none n last s at r e) (record { count = refl; within = h; vertices = tt; rise = tt; bytes = λ b. refl })
 edges-read n (suc left) last s at r h e =
     let t = edges_step n left last s at r e in
-    let w = number-within s t.a.at t.v t.b t.v_is in
-    edges_more n left last s at r t (edges-read n left (record { from = t.u; to = t.v }) s t.b.at t.rest w.1 t.rest_is)
+    let w = number-within s t.a t.v t.b t.v_is in
+    edges_more n left last s at r t (edges-read n left (record { from = t.u; to = t.v }) s t.b t.rest w.1 t.rest_is)
 
 -- ---- a path's vertices
 
@@ -166,7 +166,7 @@ pub record VerticesRead (n : ℕ) (es : List Edge) (left last : ℕ) (s : List �
   pub bytes : Bytes s → drop at s ≡ encode_numbers r.content ++ drop r.next s
 
 vertices-more : (n : ℕ) (es : List Edge) (left last : ℕ) (s : List ℕ) (at : ℕ) (r : Part (List ℕ)) (t : VertexStep n es left last s at r)
-    → VerticesRead n es left t.v s t.a.at t.rest
+    → VerticesRead n es left t.v s t.a t.rest
     → VerticesRead n es (suc left) last s at r
 unfolding All encode_numbers
 vertices-more n es left last s at r t i =
@@ -181,7 +181,7 @@ vertices-more n es left last s at r t i =
       rise = next_more ◌<◌ last t.v t.rest.content k.1 i.rise;
       steps = next_more (λ u v. is_step es u v ≡ true) last t.v t.rest.content k.2 i.steps;
       bytes = λ b.
-          joined (drop at s) (encode t.v) (encode_numbers t.rest.content) (drop t.a.at s) (drop t.rest.next s)
+          joined (drop at s) (encode t.v) (encode_numbers t.rest.content) (drop t.a s) (drop t.rest.next s)
           (number-value s at t.v t.a b t.v_is).suffix
           (i.bytes b);
     })
@@ -195,7 +195,7 @@ vertices-read n es zero last s at r h e =
 vertices-read n es (suc left) last s at r h e =
     let t = vertices-step n es left last s at r e in
     let w = number-within s at t.v t.a t.v_is in
-    vertices-more n es left last s at r t (vertices-read n es left t.v s t.a.at t.rest w.1 t.rest_is)
+    vertices-more n es left last s at r t (vertices-read n es left t.v s t.a t.rest w.1 t.rest_is)
 
 -- the steps of a path's vertices are edges
 pub steps_edges : (n : ℕ) (es : List Edge) (p : List ℕ) → All (Vertex n) p → Next (λ u v. is_step es u v ≡ true) p
@@ -218,7 +218,7 @@ pub record PathsRead (n : ℕ) (es : List Edge) (left : ℕ) (s : List ℕ) (at 
   pub bytes : Bytes s → drop at s ≡ encode_paths r.content ++ drop r.next s
 
 paths-more : (n : ℕ) (es : List Edge) (left : ℕ) (s : List ℕ) (at : ℕ) (r : Part (List (List ℕ))) (t : PathStep n es left s at r)
-    → VerticesRead n es t.count 0 s t.a.at t.path → PathsRead n es left s t.path.next t.rest
+    → VerticesRead n es t.count 0 s t.a t.path → PathsRead n es left s t.path.next t.rest
     → PathsRead n es (suc left) s at r
 unfolding All encode_paths
 paths-more n es left s at r t p i =
@@ -236,7 +236,7 @@ paths-more n es left s at r t p i =
       steps = (steps_edges n es vs p.vertices (next_tail (λ u v. is_step es u v ≡ true) 0 vs p.steps), i.steps);
       bytes = λ b.
           joined3 (drop at s) (encode (length vs)) (encode_numbers vs) (encode_paths t.rest.content)
-          (drop t.a.at s) (drop t.path.next s) (drop t.rest.next s)
+          (drop t.a s) (drop t.path.next s) (drop t.rest.next s)
           (rw p.count (number-value s at t.count t.a b t.count_is).suffix)
           (p.bytes b) (i.bytes b);
     })
@@ -250,5 +250,5 @@ paths-read n es zero s at r h e =
 paths-read n es (suc left) s at r h e =
     let t = paths-step n es left s at r e in
     let w = number-within s at t.count t.a t.count_is in
-    let p = vertices-read n es t.count 0 s t.a.at t.path w.1 t.path_is in
+    let p = vertices-read n es t.count 0 s t.a t.path w.1 t.path_is in
     paths-more n es left s at r t p (paths-read n es left s t.path.next t.rest p.within t.rest_is)

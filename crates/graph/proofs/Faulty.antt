@@ -61,8 +61,8 @@ module _ (s : List ℕ) (short : length s ≤ most_file_bytes) where
       ends-refuse (length_fault sum len) at _
       (λ n. made _ at (test_known (◌&&◌ (leb 1 len) (leb (sum + len) most_letters)) out_of_range (omega arith) n) (omega arith))
       (λ z.
-      ends_then (letters_from len s c.at) _ (letters-fault len c.at (number-within s at len c e).1) (λ l f w.
-      ends_then (labels_from left (sum + len) s (c.at + len)) _ (labels-fault left (sum + len) (c.at + len) w) (λ r g v.
+      ends_then (letters_from len s c) _ (letters-fault len c (number-within s at len c e).1) (λ l f w.
+      ends_then (labels_from left (sum + len) s (c + len)) _ (labels-fault left (sum + len) (c + len) w) (λ r g v.
       record { ends = v }))))
 
   edges-fault : (n left : ℕ) (last : Edge) (at : ℕ) → at ≤ length s → Ends (Within s) FileFault (edges_from n left last s at)
@@ -70,12 +70,12 @@ module _ (s : List ℕ) (short : length s ≤ most_file_bytes) where
   edges-fault n zero last at h = record { ends = h }
   edges-fault n (suc left) last at h =
       ends-number s at _ (number-known at h) (λ u c e.
-      ends-number s c.at _ (number-known c.at (number-within s at u c e).1) (λ v d f.
+      ends-number s c _ (number-known c (number-within s at u c e).1) (λ v d f.
       ends-refuse (edge_fault n last (record { from = u; to = v })) at _
       (λ z. made _ at (edge-known n last (record { from = u; to = v }) z) (omega arith))
       (λ z.
-      ends_then (edges_from n left (record { from = u; to = v }) s d.at) _
-      (edges-fault n left (record { from = u; to = v }) d.at (number-within s c.at v d f).1) (λ r g w.
+      ends_then (edges_from n left (record { from = u; to = v }) s d) _
+      (edges-fault n left (record { from = u; to = v }) d (number-within s c v d f).1) (λ r g w.
       record { ends = w }))))
 
   vertices-fault : (n : ℕ) (es : List Edge) (left last at : ℕ) → at ≤ length s → Ends (Within s) FileFault (vertices_from n es left last s at)
@@ -84,7 +84,7 @@ module _ (s : List ℕ) (short : length s ≤ most_file_bytes) where
   vertices-fault n es (suc left) last at h =
       ends-number s at _ (number-known at h) (λ v c e.
       ends-refuse (vertex_fault n es last v) at _ (λ z. made _ at (vertex-known n es last v z) (omega arith)) (λ z.
-      ends_then (vertices_from n es left v s c.at) _ (vertices-fault n es left v c.at (number-within s at v c e).1) (λ r g w.
+      ends_then (vertices_from n es left v s c) _ (vertices-fault n es left v c (number-within s at v c e).1) (λ r g w.
       record { ends = w })))
 
   paths-fault : (n : ℕ) (es : List Edge) (left at : ℕ) → at ≤ length s → Ends (Within s) FileFault (paths_from n es left s at)
@@ -95,7 +95,7 @@ module _ (s : List ℕ) (short : length s ≤ most_file_bytes) where
       ends-refuse (path_length_fault n count) at _
       (λ z. made _ at (test_known (◌&&◌ (leb 1 count) (leb count n)) out_of_range (omega arith) z) (omega arith))
       (λ z.
-      ends_then (vertices_from n es count 0 s c.at) _ (vertices-fault n es count 0 c.at (number-within s at count c e).1) (λ p f w.
+      ends_then (vertices_from n es count 0 s c) _ (vertices-fault n es count 0 c (number-within s at count c e).1) (λ p f w.
       ends_then (paths_from n es left s p.next) _ (paths-fault n es left p.next w) (λ r g v.
       record { ends = v }))))
 
@@ -115,16 +115,16 @@ front-fault wanted s =
     ends-refuse (pick (eqb kind wanted) 0 wrong_kind) 0 _
     (λ n. made _ 0 (test_known (eqb kind wanted) wrong_kind (omega arith) n) (omega arith))
     (λ y.
-    ends-number s a.at _ (number-known s short a.at (number-within s 0 kind a e).1) (λ n c f.
-    ends-refuse (vertex_count_fault n) a.at _
-    (λ x. made _ a.at (test_known (◌&&◌ (leb 1 n) (leb n most_vertices)) out_of_range (omega arith) x) (omega (arith, (number-within s 0 kind a e).1)))
+    ends-number s a _ (number-known s short a (number-within s 0 kind a e).1) (λ n c f.
+    ends-refuse (vertex_count_fault n) a _
+    (λ x. made _ a (test_known (◌&&◌ (leb 1 n) (leb n most_vertices)) out_of_range (omega arith) x) (omega (arith, (number-within s 0 kind a e).1)))
     (λ x.
-    ends_then (labels_from n 0 s c.at) _ (labels-fault s short n 0 c.at (number-within s a.at n c f).1) (λ l g w.
+    ends_then (labels_from n 0 s c) _ (labels-fault s short n 0 c (number-within s a n c f).1) (λ l g w.
     ends-number s l.next _ (number-known s short l.next w) (λ m d h.
     ends-refuse (edge_count_fault m) l.next _
     (λ v. made _ l.next (test_known (◌&&◌ (leb 0 m) (leb m most_edges)) out_of_range (omega arith) v) (omega arith))
     (λ v.
-    ends_then (edges_from n m no_edge s d.at) _ (edges-fault s short n m no_edge d.at (number-within s l.next m d h).1) (λ r k u.
+    ends_then (edges_from n m no_edge s d) _ (edges-fault s short n m no_edge d (number-within s l.next m d h).1) (λ r k u.
     record { ends = (short, u) })))))))))
 
 rest-fault : (s : List ℕ) (f : Front) → FrontWithin s f → Ends (λ (p : Parsed). Unit {0}) FileFault (rest_of s f)
@@ -135,8 +135,8 @@ rest-fault s f t =
     ends-refuse (path_count_fault k) f.next _
     (λ n. made _ f.next (test_known (◌&&◌ (leb 1 k) (leb k most_paths)) out_of_range (omega arith) n) (omega arith))
     (λ z.
-    ends_then (paths_from (length f.labels) f.edges k s d.at) _
-    (paths-fault s short (length f.labels) f.edges k d.at (number-within s f.next k d e).1)
+    ends_then (paths_from (length f.labels) f.edges k s d) _
+    (paths-fault s short (length f.labels) f.edges k d (number-within s f.next k d e).1)
     (λ r g w.
     ends-refuse (cover_fault (length f.labels) r.content) r.next _
     (λ n. made _ r.next (cover_known (length f.labels) r.content n) (omega arith))

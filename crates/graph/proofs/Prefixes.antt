@@ -67,9 +67,9 @@ module _ (s : List ℕ) (j : ℕ) (fits : j ≤ length s) where
       rw q
       (cut_number s at j t.len t.a _ fits t.len_is (λ k.
       cut_refuse (length_fault sum t.len) at _ t.kept
-      (cut_then (letters_from t.len (take j s) t.a.at) t.label _ (letters_cut t.len t.a.at t.label k t.label_is) (λ l.
-      cut_then (labels_from left (sum + t.len) (take j s) (t.a.at + t.len)) t.rest _
-      (labels_cut left (sum + t.len) (t.a.at + t.len) t.rest l t.rest_is) (λ m.
+      (cut_then (letters_from t.len (take j s) t.a) t.label _ (letters_cut t.len t.a t.label k t.label_is) (λ l.
+      cut_then (labels_from left (sum + t.len) (take j s) (t.a + t.len)) t.rest _
+      (labels_cut left (sum + t.len) (t.a + t.len) t.rest l t.rest_is) (λ m.
       cut_good _ m)))))
 
   edges_cut : (n left : ℕ) (last : Edge) (at : ℕ) (r : Part (List Edge)) → at ≤ j → edges_from n left last s at ≡ good r
@@ -83,9 +83,9 @@ module _ (s : List ℕ) (j : ℕ) (fits : j ≤ length s) where
       ap₂ (λ (c : List Edge) (n : ℕ). record { content = c; next = n }) t.content t.next in
       rw q
       (cut_number s at j t.u t.a _ fits t.u_is (λ k.
-      cut_number s t.a.at j t.v t.b _ fits t.v_is (λ l.
+      cut_number s t.a j t.v t.b _ fits t.v_is (λ l.
       cut_refuse (edge_fault n last d) at _ t.kept
-      (cut_then (edges_from n left d (take j s) t.b.at) t.rest _ (edges_cut n left d t.b.at t.rest l t.rest_is) (λ m.
+      (cut_then (edges_from n left d (take j s) t.b) t.rest _ (edges_cut n left d t.b t.rest l t.rest_is) (λ m.
       cut_good _ m)))))
 
   vertices_cut : (n : ℕ) (es : List Edge) (left last at : ℕ) (r : Part (List ℕ)) → at ≤ j → vertices_from n es left last s at ≡ good r
@@ -99,8 +99,8 @@ module _ (s : List ℕ) (j : ℕ) (fits : j ≤ length s) where
       rw q
       (cut_number s at j t.v t.a _ fits t.v_is (λ k.
       cut_refuse (vertex_fault n es last t.v) at _ t.kept
-      (cut_then (vertices_from n es left t.v (take j s) t.a.at) t.rest _
-      (vertices_cut n es left t.v t.a.at t.rest k t.rest_is) (λ m.
+      (cut_then (vertices_from n es left t.v (take j s) t.a) t.rest _
+      (vertices_cut n es left t.v t.a t.rest k t.rest_is) (λ m.
       cut_good _ m))))
 
   paths_cut : (n : ℕ) (es : List Edge) (left at : ℕ) (r : Part (List (List ℕ))) → at ≤ j → paths_from n es left s at ≡ good r
@@ -114,8 +114,8 @@ module _ (s : List ℕ) (j : ℕ) (fits : j ≤ length s) where
       rw q
       (cut_number s at j t.count t.a _ fits t.count_is (λ k.
       cut_refuse (path_length_fault n t.count) at _ t.kept
-      (cut_then (vertices_from n es t.count 0 (take j s) t.a.at) t.path _
-      (vertices_cut n es t.count 0 t.a.at t.path k t.path_is) (λ l.
+      (cut_then (vertices_from n es t.count 0 (take j s) t.a) t.path _
+      (vertices_cut n es t.count 0 t.a t.path k t.path_is) (λ l.
       cut_then (paths_from n es left (take j s) t.path.next) t.rest _
       (paths_cut n es left t.path.next t.rest l t.rest_is) (λ m.
       cut_good _ m)))))

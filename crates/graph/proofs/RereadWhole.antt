@@ -10,8 +10,7 @@ use borrow.Author.Tests.{le-leb, eq-eqb}
 use Rattle.wire.specs.Found.{Found, good, Part, and_then}
 use Rattle.wire.specs.Numbers.{encode, number_at}
 use Rattle.wire.specs.Sizes.{graph_kind, most_file_bytes, most_vertices, most_edges, most_paths}
-use Rattle.wire.specs.declared.numbers.Cursor.{Cursor}
-use Rattle.wire.specs.declared.numbers.Number.TheVariants.{Value}
+use Rattle.wire.proofs.Reading.{read_same}
 use Rattle.wire.proofs.Finding.{good-same}
 use Rattle.wire.proofs.NumberLaws.{number_suffix}
 use Rattle.graph.specs.Content.{Edge, Graph, vertex_count, edge_count, path_count}
@@ -24,11 +23,11 @@ use Rattle.graph.proofs.Kept.{range_free, cover_free}
 use Rattle.graph.proofs.Rereading.{Again, labels_again, edges_again, paths_again}
 
 front-found : (wanted : ℕ) (s : List ℕ) (a n b : ℕ) (l : Part (List (List ℕ))) (m c : ℕ) (r : Part (List Edge))
-    → number_at s 0 ≡ Value wanted (record { at = a })
-    → number_at s a ≡ Value n (record { at = b })
+    → number_at s 0 ≡ good (record { content = wanted; next = a })
+    → number_at s a ≡ good (record { content = n; next = b })
     → vertex_count_fault n ≡ 0
     → labels_from n 0 s b ≡ good l
-    → number_at s l.next ≡ Value m (record { at = c })
+    → number_at s l.next ≡ good (record { content = m; next = c })
     → edge_count_fault m ≡ 0
     → edges_from n m no_edge s c ≡ good r
     → front_in wanted s ≡ good (record { labels = l.content; edges = r.content; labels_at = b; edges_at = c; next = r.next })
@@ -37,7 +36,7 @@ front-found wanted s a n b l m c r e1 e2 k2 e3 e4 k4 e5 =
     simp (e1, eq-eqb wanted wanted refl, e2, k2, e3, e4, k4, e5)
 
 rest-found : (s : List ℕ) (f : Front) (k d : ℕ) (r : Part (List (List ℕ)))
-    → number_at s f.next ≡ Value k (record { at = d })
+    → number_at s f.next ≡ good (record { content = k; next = d })
     → path_count_fault k ≡ 0
     → paths_from (length f.labels) f.edges k s d ≡ good r
     → cover_fault (length f.labels) r.content ≡ 0
@@ -63,12 +62,12 @@ module _ (g : Graph) (h : GoodGraph g) (s : List ℕ) (e : s ≡ encode_graph g)
   after_labels : List ℕ
   after_labels = encode (edge_count g) ++ (encode_edges g.edges ++ (encode (path_count g) ++ encode_paths g.paths))
 
-  kind_again : (number_at s 0 ≡ Value graph_kind (record { at = length (encode graph_kind) }))
+  kind_again : (number_at s 0 ≡ good (record { content = graph_kind; next = length (encode graph_kind) }))
       × (drop (length (encode graph_kind)) s ≡ encode (vertex_count g) ++ (encode_labels g.labels ++ after_labels))
   unfolding encode_graph after_labels encode
   kind_again = number_suffix s 0 graph_kind _ (omega arith) e
 
-  count_again : (number_at s (length (encode graph_kind)) ≡ Value (vertex_count g) (record { at = labels_start g }))
+  count_again : (number_at s (length (encode graph_kind)) ≡ good (record { content = vertex_count g; next = labels_start g }))
       × (drop (labels_start g) s ≡ encode_labels g.labels ++ after_labels)
   unfolding labels_start
   count_again = number_suffix s (length (encode graph_kind)) (vertex_count g) _ (omega (arith, h.few_vertices)) kind_again.1
@@ -76,7 +75,7 @@ module _ (g : Graph) (h : GoodGraph g) (s : List ℕ) (e : s ≡ encode_graph g)
   labels-found : Again (labels_from (vertex_count g) 0 s (labels_start g)) g.labels s (labels_start g) (encode_labels g.labels) after_labels
   labels-found = labels_again g.labels 0 s (labels_start g) after_labels h.some_letter h.letters (omega (arith, h.few_letters)) count_again.1
 
-  edge-count_again : (number_at s (labels_start g + length (encode_labels g.labels)) ≡ Value (edge_count g) (record { at = edges_start g }))
+  edge-count_again : (number_at s (labels_start g + length (encode_labels g.labels)) ≡ good (record { content = edge_count g; next = edges_start g }))
       × (drop (edges_start g) s ≡ encode_edges g.edges ++ (encode (path_count g) ++ encode_paths g.paths))
   unfolding edges_start after_labels
   edge-count_again =
@@ -88,7 +87,7 @@ module _ (g : Graph) (h : GoodGraph g) (s : List ℕ) (e : s ≡ encode_graph g)
       edges_again (vertex_count g) g.edges no_edge s (edges_start g) _ (omega (arith, h.few_vertices)) h.edge_ends
       (none_below (vertex_count g) g.edges h.edge_ends h.edges_rise) edge-count_again.1
 
-  path-count_again : (number_at s (edges_start g + length (encode_edges g.edges)) ≡ Value (path_count g) (record { at = paths_start g }))
+  path-count_again : (number_at s (edges_start g + length (encode_edges g.edges)) ≡ good (record { content = path_count g; next = paths_start g }))
       × (drop (paths_start g) s ≡ encode_paths g.paths)
   unfolding paths_start
   path-count_again =
@@ -128,9 +127,6 @@ graph_again g h short = whole_short (encode_graph g) short ∙ whole_again g h
 
 -- ---- an encoding is that of one graph, however long it is
 
-value_same : (x y : ℕ) (c d : Cursor) → Value x c ≡ Value y d → (x ≡ y) × (c.at ≡ d.at)
-value_same x y c d e = (cc, ap (λ (k : Cursor). k.at) (cc))
-
 part_same : {A : Type 0} (q r : Part A) → good q ≡ good r → (q.content ≡ r.content) × (q.next ≡ r.next)
 part_same {A} q r e = let s = good-same q r e in (ap (λ (t : Part A). t.content) s, ap (λ (t : Part A). t.next) s)
 
@@ -139,7 +135,7 @@ module _ (g h : Graph) (good-g : GoodGraph g) (good-h : GoodGraph h) (e : encode
   bytes = encode_graph g
 
   counts_same : (vertex_count g ≡ vertex_count h) × (labels_start g ≡ labels_start h)
-  counts_same = value_same _ _ _ _ (sym (count_again g good-g bytes refl).0 ∙ (count_again h good-h bytes e).0)
+  counts_same = read_same (sym (count_again g good-g bytes refl).0 ∙ (count_again h good-h bytes e).0)
 
   labels-same : (g.labels ≡ h.labels) × (labels_start g + length (encode_labels g.labels) ≡ labels_start h + length (encode_labels h.labels))
   labels-same =
@@ -150,7 +146,7 @@ module _ (g h : Graph) (good-g : GoodGraph g) (good-h : GoodGraph h) (e : encode
 
   edge-counts-same : (edge_count g ≡ edge_count h) × (edges_start g ≡ edges_start h)
   edge-counts-same =
-      value_same _ _ _ _
+      read_same
       (sym (edge-count_again g good-g bytes refl).0 ∙ ap (λ (at : ℕ). number_at bytes at) labels-same.1 ∙ (edge-count_again h good-h bytes e).0)
 
   edges-same : (g.edges ≡ h.edges) × (edges_start g + length (encode_edges g.edges) ≡ edges_start h + length (encode_edges h.edges))
@@ -163,7 +159,7 @@ module _ (g h : Graph) (good-g : GoodGraph g) (good-h : GoodGraph h) (e : encode
 
   path-counts-same : (path_count g ≡ path_count h) × (paths_start g ≡ paths_start h)
   path-counts-same =
-      value_same _ _ _ _
+      read_same
       (sym (path-count_again g good-g bytes refl).0 ∙ ap (λ (at : ℕ). number_at bytes at) edges-same.1 ∙ (path-count_again h good-h bytes e).0)
 
   paths-same : (g.paths ≡ h.paths) × (paths_start g + length (encode_paths g.paths) ≡ paths_start h + length (encode_paths h.paths))

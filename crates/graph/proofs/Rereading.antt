@@ -13,7 +13,6 @@ use Rattle.wire.specs.Found.{Found, good, Part}
 use Rattle.wire.specs.Letters.{is_letter}
 use Rattle.wire.specs.Numbers.{encode, number_at}
 use Rattle.wire.specs.Sizes.{most_letters}
-use Rattle.wire.specs.declared.numbers.Number.TheVariants.{Value}
 use Rattle.wire.proofs.NumberLaws.{number_suffix}
 use Rattle.graph.specs.Content.{Edge}
 use Rattle.graph.specs.Good.{All, Next, Vertex, EdgeBelow}
@@ -67,7 +66,7 @@ moved {content} {s} at n bytes e f d =
     }
 
 labels-more : (left sum : ℕ) (s : List ℕ) (at len a : ℕ) (l : List ℕ) (r : Part (List (List ℕ)))
-    → number_at s at ≡ Value len (record { at = a })
+    → number_at s at ≡ good (record { content = len; next = a })
     → length_fault sum len ≡ 0
     → letters_from len s a ≡ good l
     → labels_from left (sum + len) s (a + len) ≡ good r
@@ -99,8 +98,8 @@ labels_again (l ∷ ls) sum s at rest o a few e =
 -- ---- edges
 
 edges_more : (n left : ℕ) (last : Edge) (s : List ℕ) (at u a v b : ℕ) (r : Part (List Edge))
-    → number_at s at ≡ Value u (record { at = a })
-    → number_at s a ≡ Value v (record { at = b })
+    → number_at s at ≡ good (record { content = u; next = a })
+    → number_at s a ≡ good (record { content = v; next = b })
     → edge_fault n last (record { from = u; to = v }) ≡ 0
     → edges_from n left (record { from = u; to = v }) s b ≡ good r
     → edges_from n (suc left) last s at ≡ good (record { content = record { from = u; to = v } ∷ r.content; next = r.next })
@@ -131,7 +130,7 @@ edges_again n (d ∷ es) last s at rest z a h e =
 -- ---- a path's vertices
 
 vertices-more : (n : ℕ) (es : List Edge) (left last : ℕ) (s : List ℕ) (at v a : ℕ) (r : Part (List ℕ))
-    → number_at s at ≡ Value v (record { at = a })
+    → number_at s at ≡ good (record { content = v; next = a })
     → vertex_fault n es last v ≡ 0
     → vertices_from n es left v s a ≡ good r
     → vertices_from n es (suc left) last s at ≡ good (record { content = v ∷ r.content; next = r.next })
@@ -177,7 +176,7 @@ first_steps es (v ∷ p) h = (first_step es v, h)
 -- ---- paths
 
 paths-more : (n : ℕ) (es : List Edge) (left : ℕ) (s : List ℕ) (at count a : ℕ) (p : Part (List ℕ)) (r : Part (List (List ℕ)))
-    → number_at s at ≡ Value count (record { at = a })
+    → number_at s at ≡ good (record { content = count; next = a })
     → path_length_fault n count ≡ 0
     → vertices_from n es count 0 s a ≡ good p
     → paths_from n es left s p.next ≡ good r

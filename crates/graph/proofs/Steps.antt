@@ -9,8 +9,6 @@ use borrow.Author.Tests.{ltb-true}
 use Rattle.wire.specs.Found.{good, Part}
 use Rattle.wire.specs.Numbers.{number_at}
 use Rattle.wire.specs.Refusals.{bytes_end}
-use Rattle.wire.specs.declared.numbers.Cursor.{Cursor}
-use Rattle.wire.specs.declared.numbers.Number.TheVariants.{Value}
 use Rattle.wire.proofs.Finding.{then_good, number-good, refuse-good, pick_good, good-same}
 use Rattle.graph.specs.Content.{Edge}
 use Rattle.graph.specs.Rules.{letter_fault, length_fault, edge_fault, path_length_fault, vertex_fault}
@@ -35,13 +33,13 @@ letters-step left s at r e =
 -- one label, and the labels after it
 pub record LabelStep (left sum : ℕ) (s : List ℕ) (at : ℕ) (r : Part (List (List ℕ))) : Type 0 where
   pub len : ℕ
-  pub a : Cursor
-  pub len_is : number_at s at ≡ Value len a
+  pub a : ℕ
+  pub len_is : number_at s at ≡ good (record { content = len; next = a })
   pub kept : length_fault sum len ≡ 0
   pub label : List ℕ
-  pub label_is : letters_from len s a.at ≡ good label
+  pub label_is : letters_from len s a ≡ good label
   pub rest : Part (List (List ℕ))
-  pub rest_is : labels_from left (sum + len) s (a.at + len) ≡ good rest
+  pub rest_is : labels_from left (sum + len) s (a + len) ≡ good rest
   pub content : r.content ≡ label ∷ rest.content
   pub next : r.next ≡ rest.next
 
@@ -51,8 +49,8 @@ unfolding labels_from
 labels-step left sum s at r e =
     let a = number-good s at _ r e in
     let b = refuse-good (length_fault sum a.0) at _ r a.3 in
-    let c = then_good (letters_from a.0 s a.1.at) _ r b.1 in
-    let d = then_good (labels_from left (sum + a.0) s (a.1.at + a.0)) _ r c.2 in
+    let c = then_good (letters_from a.0 s a.1) _ r b.1 in
+    let d = then_good (labels_from left (sum + a.0) s (a.1 + a.0)) _ r c.2 in
     let q : record { content = c.0 ∷ d.0.content; next = d.0.next } ≡ r = good-same _ r d.2 in
     record {
       len = a.0;
@@ -70,14 +68,14 @@ labels-step left sum s at r e =
 -- one edge, and the edges after it
 pub record EdgeStep (n left : ℕ) (last : Edge) (s : List ℕ) (at : ℕ) (r : Part (List Edge)) : Type 0 where
   pub u : ℕ
-  pub a : Cursor
-  pub u_is : number_at s at ≡ Value u a
+  pub a : ℕ
+  pub u_is : number_at s at ≡ good (record { content = u; next = a })
   pub v : ℕ
-  pub b : Cursor
-  pub v_is : number_at s a.at ≡ Value v b
+  pub b : ℕ
+  pub v_is : number_at s a ≡ good (record { content = v; next = b })
   pub kept : edge_fault n last (record { from = u; to = v }) ≡ 0
   pub rest : Part (List Edge)
-  pub rest_is : edges_from n left (record { from = u; to = v }) s b.at ≡ good rest
+  pub rest_is : edges_from n left (record { from = u; to = v }) s b ≡ good rest
   pub content : r.content ≡ record { from = u; to = v } ∷ rest.content
   pub next : r.next ≡ rest.next
 
@@ -86,10 +84,10 @@ pub edges_step : (n left : ℕ) (last : Edge) (s : List ℕ) (at : ℕ) (r : Par
 unfolding edges_from
 edges_step n left last s at r e =
     let a = number-good s at _ r e in
-    let b = number-good s a.1.at _ r a.3 in
+    let b = number-good s a.1 _ r a.3 in
     let edge : Edge = record { from = a.0; to = b.0 } in
     let c = refuse-good (edge_fault n last edge) at _ r b.3 in
-    let d = then_good (edges_from n left edge s b.1.at) _ r c.1 in
+    let d = then_good (edges_from n left edge s b.1) _ r c.1 in
     let q : record { content = edge ∷ d.0.content; next = d.0.next } ≡ r = good-same _ r d.2 in
     record {
       u = a.0;
@@ -108,11 +106,11 @@ edges_step n left last s at r e =
 -- one vertex of a path, and the vertices after it
 pub record VertexStep (n : ℕ) (es : List Edge) (left last : ℕ) (s : List ℕ) (at : ℕ) (r : Part (List ℕ)) : Type 0 where
   pub v : ℕ
-  pub a : Cursor
-  pub v_is : number_at s at ≡ Value v a
+  pub a : ℕ
+  pub v_is : number_at s at ≡ good (record { content = v; next = a })
   pub kept : vertex_fault n es last v ≡ 0
   pub rest : Part (List ℕ)
-  pub rest_is : vertices_from n es left v s a.at ≡ good rest
+  pub rest_is : vertices_from n es left v s a ≡ good rest
   pub content : r.content ≡ v ∷ rest.content
   pub next : r.next ≡ rest.next
 
@@ -122,7 +120,7 @@ unfolding vertices_from
 vertices-step n es left last s at r e =
     let a = number-good s at _ r e in
     let b = refuse-good (vertex_fault n es last a.0) at _ r a.3 in
-    let c = then_good (vertices_from n es left a.0 s a.1.at) _ r b.1 in
+    let c = then_good (vertices_from n es left a.0 s a.1) _ r b.1 in
     let q : record { content = a.0 ∷ c.0.content; next = c.0.next } ≡ r = good-same _ r c.2 in
     record {
       v = a.0;
@@ -138,11 +136,11 @@ vertices-step n es left last s at r e =
 -- one path, and the paths after it
 pub record PathStep (n : ℕ) (es : List Edge) (left : ℕ) (s : List ℕ) (at : ℕ) (r : Part (List (List ℕ))) : Type 0 where
   pub count : ℕ
-  pub a : Cursor
-  pub count_is : number_at s at ≡ Value count a
+  pub a : ℕ
+  pub count_is : number_at s at ≡ good (record { content = count; next = a })
   pub kept : path_length_fault n count ≡ 0
   pub path : Part (List ℕ)
-  pub path_is : vertices_from n es count 0 s a.at ≡ good path
+  pub path_is : vertices_from n es count 0 s a ≡ good path
   pub rest : Part (List (List ℕ))
   pub rest_is : paths_from n es left s path.next ≡ good rest
   pub content : r.content ≡ path.content ∷ rest.content
@@ -154,7 +152,7 @@ unfolding paths_from
 paths-step n es left s at r e =
     let a = number-good s at _ r e in
     let b = refuse-good (path_length_fault n a.0) at _ r a.3 in
-    let c = then_good (vertices_from n es a.0 0 s a.1.at) _ r b.1 in
+    let c = then_good (vertices_from n es a.0 0 s a.1) _ r b.1 in
     let d = then_good (paths_from n es left s c.0.next) _ r c.2 in
     let q : record { content = c.0.content ∷ d.0.content; next = d.0.next } ≡ r = good-same _ r d.2 in
     record {

@@ -1,7 +1,8 @@
 -- What reading a graph file finds: its content, or the first fault, "byte by byte from the front". s is the file, `at` a place in it.
 use Rattle.std.specs.Prelude.{ℕ, zero, suc, ◌+◌, List, [], ◌∷◌, length, get_or, leb, ltb, eqb}
 use Rattle.wire.specs.Cases.{pick}
-use Rattle.wire.specs.Found.{Found, good, fault, Part, and_then, number, refuse}
+use Rattle.wire.specs.Found.{Found, good, fault, Part, and_then, refuse}
+use Rattle.wire.specs.Numbers.{number}
 use Rattle.wire.specs.Refusals.{bytes_end, wrong_kind, out_of_range, left_over}
 use Rattle.wire.specs.Sizes.{graph_kind, most_file_bytes}
 use Rattle.graph.specs.Content.{Edge, Graph}

@@ -9,10 +9,8 @@ pub fn numbers_size(numbers: &[u32]) -> usize
     ensures { result ≡ length (encode_numbers numbers.now) }
 {
     let mut total: usize = 0;
-    let mut i: usize = 0;
-    while i < numbers.len() {
-        total += group_count(numbers[i]);
-        i += 1;
+    for number in numbers {
+        total += group_count(*number);
     }
     total
 }

@@ -3,14 +3,10 @@ use Rattle.std.specs.Prelude.{ℕ, ◌≡◌, length}
 use mathlib.Core.List.{List, flatten}
 use Rattle.wire.specs.Found.{Found, good, fault}
 use Rattle.wire.specs.Sizes.{graph_kind}
-use Rattle.wire.specs.declared.numbers.Number.{Number}
-use Rattle.wire.specs.declared.numbers.Number.TheVariants as number
 use Rattle.graph.specs.Content.{vertex_count, edge_count, path_count, letters_of}
 use Rattle.graph.specs.Reading.{Front, front_of, Parsed}
 use Rattle.graph_check.specs.declared.Head.{Head}
 use Rattle.graph_check.specs.declared.Sections.{Sections}
-use Rattle.graph_check.specs.declared.Checked.{Checked}
-use Rattle.graph_check.specs.declared.Checked.TheVariants.{Accepted, Fault}
 
 -- the counts of an accepted file, and where its sections start
 abbrev pub sections_of : Parsed → Sections
@@ -24,10 +20,10 @@ sections_of p = record {
   paths = p.paths_at;
 }
 
--- accepted with its sections, or the fault's number and place
-abbrev pub checked_of : Found Parsed → Checked
-checked_of (good p) = Accepted (sections_of p)
-checked_of (fault k place) = Fault k place
+-- the sections of an accepted file, or the fault's number and place
+abbrev pub checked_of : Found Parsed → Found Sections
+checked_of (good p) = good (sections_of p)
+checked_of (fault k place) = fault k place
 
 -- the counts and places of a file up to its edges
 abbrev pub head_of : Front → Head
@@ -37,7 +33,7 @@ head_of f = record {
   labels = f.labels_at;
   m = length f.edges;
   edges = f.edges_at;
-  next = f.next;
+  next = record { at = f.next };
 }
 
 -- the file s was read up to its edges, and `head` is what was found
@@ -45,8 +41,3 @@ pub record HasHead (s : List ℕ) (head : Head) : Type 0 where
   pub front : Front
   pub reads : front_of graph_kind s ≡ good front
   pub same : head ≡ head_of front
-
--- a number's fault
-abbrev pub fault_of : Number → Checked
-fault_of (number.Value x c) = Fault 0 c.at
-fault_of (number.Fault k place) = Fault k place

@@ -67,6 +67,12 @@ module _ (letters lengths : List ℕ) (n i sum : ℕ) where
   unfolding encode_labels labels_in
   labels_next h = simp (left-more n i h, length-numbers)
 
+  -- with the length and the letters themselves
+  pub label-next : (x : ℕ) (p : List ℕ) → x ≡ get_or lengths i 0 → p ≡ numbers_in (get_or lengths i 0) sum letters → i < n
+      → encode_labels (labels_in (n - i) i sum letters lengths)
+      ≡ encode x ++ (p ++ encode_labels (labels_in (n - (i + 1)) (i + 1) (sum + x) letters lengths))
+  label-next x p e f h = rw (e, f) (labels_next h)
+
   pub labels_end : n ≤ i → encode_labels (labels_in (n - i) i sum letters lengths) ≡ []
   unfolding encode_labels labels_in
   labels_end h = simp (left-none n i h)
@@ -107,6 +113,12 @@ module _ (paths counts : List ℕ) (k i : ℕ) where
       ++ (encode_numbers (numbers_in (get_or counts i 0) (path_room * i) paths) ++ encode_paths (paths_in (k - (i + 1)) (i + 1) paths counts))
   unfolding encode_paths paths_in
   paths-next h = simp (left-more k i h, length-numbers)
+
+  -- with the path itself
+  pub path-next : (p : List ℕ) → p ≡ numbers_in (get_or counts i 0) (path_room * i) paths → i < k
+      → encode_paths (paths_in (k - i) i paths counts)
+      ≡ encode (length p) ++ (encode_numbers p ++ encode_paths (paths_in (k - (i + 1)) (i + 1) paths counts))
+  path-next p e h = rw (e, length-numbers) (paths-next h)
 
   pub paths_end : k ≤ i → encode_paths (paths_in (k - i) i paths counts) ≡ []
   unfolding encode_paths paths_in

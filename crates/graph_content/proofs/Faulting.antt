@@ -11,7 +11,24 @@ use lib.Dec.{leb, ltb}
 use borrow.Author.Tests.{eq-eqb, ne_eqb, le-leb, lt-leb, le-ltb}
 use Rattle.wire.specs.Found.{first}
 use Rattle.wire.specs.Cases.{pick}
-use Rattle.wire.specs.Refusals.{out_of_range, no_vertex, not_rising, not_edge}
+use Rattle.wire.specs.Refusals.{out_of_range, no_vertex, not_rising, not_edge, code}
+use Rattle.wire.specs.declared.refusals.Refusal.{Refusal}
+use Rattle.wire.specs.declared.refusals.Refusal.TheVariants.{
+  BytesEnd,
+  BadNumber,
+  WrongKind,
+  OutOfRange,
+  NotLetter,
+  NoVertex,
+  NotRising,
+  NotEdge,
+  OnNoPath,
+  LeftOver,
+  Outside,
+  LettersDiffer,
+  SmallBuffer,
+  ShortOutput,
+}
 use Rattle.wire.specs.Sizes.{path_room}
 use Rattle.graph.specs.Content.{Edge}
 use Rattle.graph.specs.Rules.{length_fault, letter_fault, edge_fault, path_length_fault, is_vertex, is_edge, is_step, vertex_fault}
@@ -29,6 +46,30 @@ first_bad f a b e n = simp (ne_eqb a 0 (λ z. n (e ∙ z))) (sym e)
 -- f is the fault, and there is none
 pub first-none : (f a b : ℕ) → f ≡ a → f ≡ 0 → first a b ≡ b
 first-none f a b e z = simp (eq-eqb a 0 (sym e ∙ z))
+
+-- a refusal is a fault
+pub code-some : (r : Refusal) → code r ≡ 0 → ⊥
+code-some BytesEnd e = omega arith
+code-some BadNumber e = omega arith
+code-some WrongKind e = omega arith
+code-some OutOfRange e = omega arith
+code-some NotLetter e = omega arith
+code-some NoVertex e = omega arith
+code-some NotRising e = omega arith
+code-some NotEdge e = omega arith
+code-some OnNoPath e = omega arith
+code-some LeftOver e = omega arith
+code-some Outside e = omega arith
+code-some LettersDiffer e = omega arith
+code-some SmallBuffer e = omega arith
+code-some ShortOutput e = omega arith
+
+-- code's refusal r is the fault; code's acceptance says that there is none
+pub refused : (r : Refusal) (a b : ℕ) → code r ≡ a → first a b ≡ code r
+refused r a b e = first_bad (code r) a b e (code-some r)
+
+pub taken : (a b : ℕ) → 0 ≡ a → first a b ≡ b
+taken a b e = first-none 0 a b e refl
 
 pub first-zero : (a b : ℕ) → first a b ≡ 0 → (a ≡ 0) × (b ≡ 0)
 first-zero a b h =

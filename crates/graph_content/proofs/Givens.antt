@@ -1,6 +1,6 @@
 -- The first fault of content, in the reader's order, and that it is what the reader would find.
 -- Assumes nothing.
-use Prim.Native.Nat.{ℕ, zero, suc, ◌+◌, ◌*◌, ◌^◌, ◌<◌}
+use Prim.Native.Nat.{ℕ, zero, suc, ◌+◌, ◌*◌, ◌^◌}
 use mathlib.Core.Path.{◌≡◌, refl, ap, ◌∙◌}
 use mathlib.Core.List.{List}
 use native.Mathlib.Decide.{ℕ_discrete}
@@ -13,6 +13,7 @@ use Rattle.graph.specs.Rules.{vertex_count_fault, letter_fault, edge_count_fault
 use Rattle.graph.specs.Entries.{Given, edge_in, numbers_in, labels_in, edges_in, paths_in, graph_in, graph_given}
 use Rattle.graph.proofs.ContentReading.{of_letters, of_labels, of_edges, of_vertices, of_paths, of_front, of_rest, of_graph, given-number}
 use Rattle.graph.proofs.Givens.{length-numbers, length-labels, length-edges, length-paths}
+use Rattle.graph_content.specs.Used.{Fit, Fits}
 use Rattle.graph_content.specs.Faults.{letters_fault, labels_fault, edges_fault, vertices_fault, paths_fault}
 
 -- ---- the sections
@@ -27,10 +28,6 @@ content_fault c =
     (first (path_count_fault c.k)
     (first (paths_fault c.n (edges_in c.m 0 c.buffers.edges) c.k 0 c.buffers.paths c.buffers.counts)
     (cover_fault c.n (paths_in c.k 0 c.buffers.paths c.buffers.counts)))))))
-
--- every number fits 32 bits, as those of a slice do
-abbrev pub Fit : List ℕ → Type 0
-Fit xs = (i : ℕ) → get_or xs i 0 < 2 ^ 32
 
 pub letters_of : (left at : ℕ) (letters : List ℕ) → of_letters (numbers_in left at letters) ≡ letters_fault left letters at
 unfolding of_letters numbers_in letters_fault
@@ -81,16 +78,6 @@ paths_of n es (suc left) i paths counts f g =
     )
 
 -- ---- the whole
-
--- every number of the content fits 32 bits
-pub record Fits (c : Given) : Type 0 where
-  pub n : c.n < 2 ^ 32
-  pub m : c.m < 2 ^ 32
-  pub k : c.k < 2 ^ 32
-  pub lengths : Fit c.buffers.lengths
-  pub edges : Fit c.buffers.edges
-  pub paths : Fit c.buffers.paths
-  pub counts : Fit c.buffers.counts
 
 first_in : (a b c : ℕ) → first (first a b) c ≡ first a (first b c)
 first_in a b c =

@@ -3,5 +3,6 @@ pub mod Faulting
 pub mod Givens
 pub mod Searching
 pub mod Walking
-pub mod Flagging
 pub mod Sound
+pub mod Flagging
+pub mod Cutting

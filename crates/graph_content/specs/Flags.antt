@@ -1,13 +1,13 @@
 -- Flags of vertices, vertex v at place v − 1: what marking the vertices of paths adds.
-use Rattle.std.specs.Prelude.{ℕ, ◌+◌, ◌-◌, ◌*◌, ◌≤◌, ◌<◌, ◌≡◌, List, Bool, ◌||◌, length, get_or, eqb}
+use Rattle.std.specs.Prelude.{ℕ, ◌+◌, ◌-◌, ◌*◌, ◌≤◌, ◌<◌, ◌≡◌, List, Bool, false, ◌||◌, length, get_or}
 use Rattle.wire.specs.Sizes.{path_room}
 
 -- vertex v is marked
-abbrev pub marked : List ℕ → ℕ → Bool
-marked flags v = eqb (get_or flags (v - 1) 0) 1
+abbrev pub marked : List Bool → ℕ → Bool
+marked flags v = get_or flags (v - 1) false
 
 -- a vertex is marked afterwards exactly if it was before or is one of those named
-pub record Flagged (before after : List ℕ) (named : ℕ → Bool) : Type 0 where
+pub record Flagged (before after : List Bool) (named : ℕ → Bool) : Type 0 where
   pub long : length after ≡ length before
   pub each : (v : ℕ) → 1 ≤ v → marked after v ≡ ◌||◌ (marked before v) (named v)
 

@@ -1,5 +1,5 @@
 -- Content in lent buffers, by the buffers one by one.
-use Rattle.std.specs.Prelude.{ℕ, zero, suc, ◌+◌, ◌≤◌, ◌<◌, List, length, get_or}
+use Rattle.std.specs.Prelude.{ℕ, zero, suc, ◌+◌, ◌^◌, ◌≤◌, ◌<◌, List, length, get_or}
 use Rattle.wire.specs.Numbers.{encode}
 use Rattle.wire.specs.Sizes.{full_letters, full_lengths, full_edges, full_paths, full_counts, path_room}
 use Rattle.graph.specs.Entries.{Given}
@@ -17,6 +17,20 @@ given_of n m k letters lengths edges paths counts = record {
 abbrev pub Full : ℕ → ℕ → ℕ → ℕ → ℕ → Type 0
 Full letters lengths edges paths counts =
     (full_letters ≤ letters) × (full_lengths ≤ lengths) × (full_edges ≤ edges) × (full_paths ≤ paths) × (full_counts ≤ counts)
+
+-- every number fits 32 bits, as those of a slice do
+abbrev pub Fit : List ℕ → Type 0
+Fit xs = (i : ℕ) → get_or xs i 0 < 2 ^ 32
+
+-- every number of the content fits 32 bits
+pub record Fits (c : Given) : Type 0 where
+  pub n : c.n < 2 ^ 32
+  pub m : c.m < 2 ^ 32
+  pub k : c.k < 2 ^ 32
+  pub lengths : Fit c.buffers.lengths
+  pub edges : Fit c.buffers.edges
+  pub paths : Fit c.buffers.paths
+  pub counts : Fit c.buffers.counts
 
 -- how many bytes the labels take, `left` of them from label i on: the lengths say it
 unfoldable pub labels_size : ℕ → ℕ → List ℕ → ℕ

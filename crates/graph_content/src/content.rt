@@ -1,108 +1,83 @@
-// The first fault of a label's letters, of the edges and of a path's vertices, in the reader's order, 0 for none.
+// The first fault of a label's letters, of the edges and of a path's vertices, in the reader's order.
 ghost use Rattle.std.specs.Prelude.{◌≡◌, false, ◌+◌, ◌-◌, ◌*◌, ◌≤◌, ◌<◌, length};
-ghost use Rattle.wire.specs.Sizes.{most_edges, full_edges};
+ghost use Rattle.wire.specs.Found.{told};
+ghost use Rattle.wire.specs.Sizes.{most_edges};
 ghost use Rattle.graph.specs.Rules.{no_edge, edge_below};
 ghost use Rattle.graph.specs.Entries.{edge_in, edges_in};
+ghost use Rattle.graph_rules.specs.Edges.{edge_of};
 ghost use Rattle.graph_content.specs.Faults.{letters_fault, edges_fault, vertices_fault, Rising};
 ghost use Rattle.graph_content.specs.Search.{Passed, edge_is};
 
-use graph_rules::rules::{edge_below, edge_fault, letter_fault, rise_fault};
-use wire::refusals::NOT_EDGE;
+use crate::given::Content;
+use graph_rules::rules::{Edge, NO_EDGE, edge_below, edge_fault, letter_fault, rise_fault};
+use wire::refusals::Refusal;
 
-// A label's letters, from a place up to another.
-pub fn letters_fault(letters: &[u8], start: usize, end: usize) -> u32
-    requires { end ≤ length letters.now }
-    ensures { result ≡ letters_fault (end - start) letters.now start }
+// A label's letters.
+pub fn letters_fault(letters: &[u8]) -> Result<(), Refusal>
+    ensures { told result ≡ letters_fault (length letters.now) letters.now 0 }
 {
-    let mut at = start;
-    while at < end {
-        let fault = letter_fault(letters[at]);
-        if fault != 0 {
-            return fault;
-        }
-        at += 1;
+    for letter in letters {
+        letter_fault(*letter)?;
     }
-    0
+    Ok(())
 }
 
 // The edges, each against the one before it.
-pub fn edges_fault(n: u32, m: usize, edges: &[u32]) -> u32
-    requires { (m ≤ most_edges) × (full_edges ≤ length edges.now) }
-    ensures { result ≡ edges_fault n m 0 no_edge edges.now }
+pub fn edges_fault(content: &Content<'_>) -> Result<(), Refusal>
+    requires { content.now.m ≤ most_edges }
+    ensures { told result ≡ edges_fault content.now.n content.now.m 0 no_edge content.now.buffers.edges }
 {
-    let mut from: u32 = 0;
-    let mut to: u32 = 0;
-    let mut i: usize = 0;
-    while i < m {
-        let fault = edge_fault(n, from, to, edges[2 * i], edges[2 * i + 1]);
-        if fault != 0 {
-            return fault;
-        }
-        from = edges[2 * i];
-        to = edges[2 * i + 1];
-        i += 1;
+    let mut last = NO_EDGE;
+    for i in 0..content.m as usize {
+        let edge = content.edge(i);
+        edge_fault(content.n, last, edge)?;
+        last = edge;
     }
-    0
+    Ok(())
 }
 
-// The place of the first edge that is not below from - to, looked for from a place on.
-fn skip_edges(m: usize, edges: &[u32], start: usize, from: u32, to: u32) -> usize
-    requires { (start ≤ m) × (m ≤ most_edges) × (full_edges ≤ length edges.now) }
-    ensures { Passed m edges.now start from to result
-        × (result < m → edge_below (edge_in edges.now result) (record { from = from; to = to }) ≡ false) }
+// The place of the first edge that is not below a step, looked for from a place on.
+fn skip_edges(content: &Content<'_>, start: usize, step: Edge) -> usize
+    requires { (start ≤ content.now.m) × (content.now.m ≤ most_edges) }
+    ensures { Passed content.now.m content.now.buffers.edges start step.from step.to result
+        × (result < content.now.m → edge_below (edge_in content.now.buffers.edges result) (edge_of step) ≡ false) }
 {
-    let mut i = start;
-    while i < m {
-        if !edge_below(edges[2 * i], edges[2 * i + 1], from, to) {
+    for i in start..content.m as usize {
+        if !edge_below(content.edge(i), step) {
             return i;
         }
-        i += 1;
     }
-    i
+    content.m as usize
 }
 
-// Whether the edge at a place is from - to.
-fn edge_is(m: usize, edges: &[u32], i: usize, from: u32, to: u32) -> bool
-    requires { (m ≤ most_edges) × (full_edges ≤ length edges.now) }
-    ensures { result ≡ edge_is m edges.now i from to }
+// Whether the edge at a place is a step.
+fn edge_is(content: &Content<'_>, i: usize, step: Edge) -> bool
+    requires { content.now.m ≤ most_edges }
+    ensures { result ≡ edge_is content.now.m content.now.buffers.edges i step.from step.to }
 {
-    if i < m {
-        if edges[2 * i] == from {
-            return edges[2 * i + 1] == to;
-        }
-    }
-    false
+    i < content.m as usize && content.edge(i) == step
 }
 
-// A path's vertices, from a place up to another. Paths and edges rise, so that one pass over the edges finds all the path's steps.
-pub fn vertices_fault(
-    n: u32,
-    m: usize,
-    edges: &[u32],
-    paths: &[u32],
-    start: usize,
-    end: usize,
-) -> u32
-    requires m_le_most_edges { (m ≤ most_edges) × (full_edges ≤ length edges.now) × Rising m edges.now }
-    requires start_lt_end { (start < end) × (end ≤ length paths.now) }
-    ensures { result ≡ vertices_fault n (edges_in m 0 edges.now) (end - start) start 0 paths.now }
+// A path's vertices. Paths and edges rise, so that one pass over the edges finds all the path's steps.
+pub fn vertices_fault(content: &Content<'_>, path: &[u32]) -> Result<(), Refusal>
+    requires rising { (content.now.m ≤ most_edges) × Rising content.now.m content.now.buffers.edges }
+    ensures { told result ≡ vertices_fault content.now.n (edges_in content.now.m 0 content.now.buffers.edges) (length path.now) 0 0 path.now }
 {
-    let head = rise_fault(n, 0, paths[start]);
-    if head != 0 {
-        return head;
-    }
+    let mut last: u32 = 0;
     let mut place: usize = 0;
-    let mut at = start + 1;
-    while at < end {
-        let fault = rise_fault(n, paths[at - 1], paths[at]);
-        if fault != 0 {
-            return fault;
+    for vertex in path {
+        rise_fault(content.n, last, *vertex)?;
+        if last != 0 {
+            let step = Edge {
+                from: last,
+                to: *vertex,
+            };
+            place = skip_edges(content, place, step);
+            if !edge_is(content, place, step) {
+                return Err(Refusal::NotEdge);
+            }
         }
-        place = skip_edges(m, edges, place, paths[at - 1], paths[at]);
-        if !edge_is(m, edges, place, paths[at - 1], paths[at]) {
-            return NOT_EDGE;
-        }
-        at += 1;
+        last = *vertex;
     }
-    0
+    Ok(())
 }

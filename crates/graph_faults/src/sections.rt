@@ -1,56 +1,40 @@
-// The first fault of the labels and of the paths, in the reader's order, 0 for none.
-ghost use Rattle.std.specs.Prelude.{◌≡◌, ◌≤◌, length};
-ghost use Rattle.wire.specs.Sizes.{most_vertices, most_edges, most_paths, full_letters, full_lengths, full_edges, full_paths, full_counts};
+// The first fault of the labels and of the paths, in the reader's order.
+ghost use Rattle.std.specs.Prelude.{◌≡◌, ◌≤◌};
+ghost use Rattle.wire.specs.Found.{told};
+ghost use Rattle.wire.specs.Sizes.{most_vertices, most_edges, most_paths};
 ghost use Rattle.graph.specs.Entries.{edges_in};
 ghost use Rattle.graph_content.specs.Faults.{labels_fault, paths_fault, Rising};
 
 use graph_content::content::{letters_fault, vertices_fault};
-use graph_content::wide;
+use graph_content::given::Content;
 use graph_rules::rules::{length_fault, range_fault};
-use wire::sizes::PATH_ROOM;
+use wire::refusals::Refusal;
 
 // The labels: each length, and then its letters.
-pub fn labels_fault(n: usize, letters: &[u8], lengths: &[u32]) -> u32
-    requires { (n ≤ most_vertices) × (full_letters ≤ length letters.now) × (full_lengths ≤ length lengths.now) }
-    ensures { result ≡ labels_fault n 0 0 letters.now lengths.now }
+pub fn labels_fault(content: &Content<'_>) -> Result<(), Refusal>
+    requires { content.now.n ≤ most_vertices }
+    ensures { told result ≡ labels_fault content.now.n 0 0 content.now.buffers.letters content.now.buffers.lengths }
 {
-    let mut sum: u32 = 0;
-    let mut i: usize = 0;
-    while i < n {
-        let fault = length_fault(sum, lengths[i]);
-        if fault != 0 {
-            return fault;
-        }
-        let next = sum + lengths[i];
-        let letter = letters_fault(letters, wide(sum), wide(next));
-        if letter != 0 {
-            return letter;
-        }
+    let mut sum: usize = 0;
+    for length in &content.lengths[..content.n as usize] {
+        length_fault(sum as u32, *length)?;
+        let next = sum + *length as usize;
+        letters_fault(&content.letters[sum..next])?;
         sum = next;
-        i += 1;
     }
-    0
+    Ok(())
 }
 
 // The paths: each vertex count, and then its vertices.
-pub fn paths_fault(n: u32, m: usize, k: usize, edges: &[u32], paths: &[u32], counts: &[u32]) -> u32
-    requires m_le_most_edges { (m ≤ most_edges) × (full_edges ≤ length edges.now) × Rising m edges.now }
-    requires n_le_most_vertices { (n ≤ most_vertices) × (k ≤ most_paths) × (full_paths ≤ length paths.now) × (full_counts ≤ length counts.now) }
-    ensures { result ≡ paths_fault n (edges_in m 0 edges.now) k 0 paths.now counts.now }
+pub fn paths_fault(content: &Content<'_>) -> Result<(), Refusal>
+    requires rising { (content.now.m ≤ most_edges) × Rising content.now.m content.now.buffers.edges }
+    requires few { (content.now.n ≤ most_vertices) × (content.now.k ≤ most_paths) }
+    ensures { told result ≡ paths_fault content.now.n (edges_in content.now.m 0 content.now.buffers.edges) content.now.k 0
+        content.now.buffers.paths content.now.buffers.counts }
 {
-    let mut i: usize = 0;
-    while i < k {
-        let fault = range_fault(1, n, counts[i]);
-        if fault != 0 {
-            return fault;
-        }
-        let start = PATH_ROOM * i;
-        let end = start + wide(counts[i]);
-        let vertex = vertices_fault(n, m, edges, paths, start, end);
-        if vertex != 0 {
-            return vertex;
-        }
-        i += 1;
+    for i in 0..content.k as usize {
+        range_fault(1, content.n, content.counts[i])?;
+        vertices_fault(content, content.path(i))?;
     }
-    0
+    Ok(())
 }

@@ -9,8 +9,6 @@ use lib.Seq.{take_at, length-take-le}
 use Rattle.wire.specs.Numbers.{number_at}
 use Rattle.wire.specs.Found.{good, Part}
 use Rattle.wire.specs.Sizes.{most_letters}
-use Rattle.wire.specs.declared.numbers.Cursor.{Cursor}
-use Rattle.wire.specs.declared.numbers.Number.TheVariants.{Value}
 use Rattle.wire.proofs.NumberLaws.{number-within}
 use Rattle.graph.specs.Content.{Edge, edge_numbers}
 use Rattle.graph.specs.Good.{All}
@@ -22,16 +20,16 @@ use Rattle.graph_fill.specs.Filling.{items, one_number, one_label, one_path, lab
 
 -- ---- a number, letters
 
-pub number_is_lem : (s : List ℕ) (at x : ℕ) (c : Cursor) → number_at s at ≡ Value x c → one_number s at ≡ record { content = x; next = c.at }
+pub number_is_lem : (s : List ℕ) (at x c : ℕ) → number_at s at ≡ good (record { content = x; next = c }) → one_number s at ≡ record { content = x; next = c }
 unfolding one_number
 number_is_lem s at x c e = simp e
 
 -- letters that were found after a number are the file's bytes, and end within it
-pub letters-are : (s : List ℕ) (at len : ℕ) (c : Cursor) (l : List ℕ) → number_at s at ≡ Value len c → letters_from len s c.at ≡ good l
-    → (l ≡ take len (drop c.at s)) × (c.at + len ≤ length s)
+pub letters-are : (s : List ℕ) (at len c : ℕ) (l : List ℕ) → number_at s at ≡ good (record { content = len; next = c }) → letters_from len s c ≡ good l
+    → (l ≡ take len (drop c s)) × (c + len ≤ length s)
 letters-are s at len c l e f =
-    let t = letters-read len s c.at l (number-within s at len c e).1 f in
-    (sym (ap (take len) t.bytes ∙ take_at l (drop (c.at + len) s) len t.count), t.within)
+    let t = letters-read len s c l (number-within s at len c e).1 f in
+    (sym (ap (take len) t.bytes ∙ take_at l (drop (c + len) s) len t.count), t.within)
 
 -- ---- labels
 
@@ -48,7 +46,7 @@ labels-are (suc n) sum s at r e =
     let t = labels-step n sum s at r e in
     let w = number_is_lem s at t.len t.a t.len_is in
     let l = (letters-are s at t.len t.a t.label t.len_is t.label_is).0 in
-    let q = labels-are n (sum + t.len) s (t.a.at + t.len) t.rest t.rest_is in
+    let q = labels-are n (sum + t.len) s (t.a + t.len) t.rest t.rest_is in
     part_eq r _ (t.content ∙ rw (w, l, q)) (t.next ∙ rw (w, q))
 
 -- the label behind the first i of them: its letters stand in the file, and are not too many with those before
@@ -72,12 +70,12 @@ label_stands (suc i) (suc n) sum s at r h e =
     let t = labels-step n sum s at r e in
     let w = number_is_lem s at t.len t.a t.len_is in
     let k = length_kept sum t.len t.kept in
-    let f = label_stands i n (sum + t.len) s (t.a.at + t.len) t.rest (omega arith) t.rest_is in
-    let rest = flatten (labels_in s i (t.a.at + t.len)).content in
+    let f = label_stands i n (sum + t.len) s (t.a + t.len) t.rest (omega arith) t.rest_is in
+    let rest = flatten (labels_in s i (t.a + t.len)).content in
     let g = (letters-are s at t.len t.a t.label t.len_is t.label_is).1 in
-    let l : length (take t.len (drop t.a.at s)) ≡ t.len = length-take-le t.len (drop t.a.at s) (simp length-drop (omega arith)) in
-    let m : sum + length (take t.len (drop t.a.at s) ++ rest) ≡ sum + t.len + length rest = simp length-append (omega arith) in
-    let n : (labels_in s (suc i) at).next ≡ (labels_in s i (t.a.at + t.len)).next =
+    let l : length (take t.len (drop t.a s)) ≡ t.len = length-take-le t.len (drop t.a s) (simp length-drop (omega arith)) in
+    let m : sum + length (take t.len (drop t.a s) ++ rest) ≡ sum + t.len + length rest = simp length-append (omega arith) in
+    let n : (labels_in s (suc i) at).next ≡ (labels_in s i (t.a + t.len)).next =
     ap (λ (p : Part ℕ). (labels_in s i (p.next + p.content)).next) w in
     rw (n, w, m) f
 
@@ -90,8 +88,8 @@ edges_are_lem n zero last s at r e = rw (edges_none n last s at r e)
 edges_are_lem n (suc m) last s at r e =
     let t = edges_step n m last s at r e in
     let u = number_is_lem s at t.u t.a t.u_is in
-    let v = number_is_lem s t.a.at t.v t.b t.v_is in
-    let q = edges_are_lem n m (record { from = t.u; to = t.v }) s t.b.at t.rest t.rest_is in
+    let v = number_is_lem s t.a t.v t.b t.v_is in
+    let q = edges_are_lem n m (record { from = t.u; to = t.v }) s t.b t.rest t.rest_is in
     let k : 2 * suc m ≡ suc (suc (2 * m)) = omega arith in
     rw (t.content, k, u, v, q)
 
@@ -102,7 +100,7 @@ vertices-are n es zero last s at r e = vertices-none n es last s at r e
 vertices-are n es (suc left) last s at r e =
     let t = vertices-step n es left last s at r e in
     let w = number_is_lem s at t.v t.a t.v_is in
-    let q = vertices-are n es left t.v s t.a.at t.rest t.rest_is in
+    let q = vertices-are n es left t.v s t.a t.rest t.rest_is in
     part_eq r _ (t.content ∙ rw (w, q)) (t.next ∙ rw (w, q))
 
 pub paths-are : (n : ℕ) (es : List Edge) (k : ℕ) (s : List ℕ) (at : ℕ) (r : Part (List (List ℕ))) → paths_from n es k s at ≡ good r
@@ -112,7 +110,7 @@ paths-are n es zero s at r e = paths-none n es s at r e
 paths-are n es (suc k) s at r e =
     let t = paths-step n es k s at r e in
     let w = number_is_lem s at t.count t.a t.count_is in
-    let p = vertices-are n es t.count 0 s t.a.at t.path t.path_is in
+    let p = vertices-are n es t.count 0 s t.a t.path t.path_is in
     let q = paths-are n es k s t.path.next t.rest t.rest_is in
     part_eq r _ (t.content ∙ rw (q, p, w)) (t.next ∙ rw (q, p, w))
 

@@ -1,9 +1,7 @@
 -- What the fills take from an accepted section: items one after the other, with no rule left to look at.
 use Rattle.std.specs.Prelude.{ℕ, zero, suc, ◌+◌, List, [], ◌∷◌, take, drop}
 use Rattle.wire.specs.Numbers.{number_at}
-use Rattle.wire.specs.Found.{Part}
-use Rattle.wire.specs.declared.numbers.Number.{Number}
-use Rattle.wire.specs.declared.numbers.Number.TheVariants.{Value, Fault}
+use Rattle.wire.specs.Found.{Found, good, fault, Part}
 
 -- `count` items from a place on, each of which begins where the last one ended; `one` gives the item at a place
 unfoldable pub items : {A : Type 0} → (ℕ → Part A) → ℕ → ℕ → Part (List A)
@@ -14,9 +12,9 @@ items one (suc count) at = record {
 }
 
 -- the number that was read at a place; where there is none, as nowhere in an accepted section, 0 that takes no byte
-abbrev pub taken : Number → ℕ → Part ℕ
-taken (Value x c) at = record { content = x; next = c.at }
-taken (Fault k place) at = record { content = 0; next = at }
+abbrev pub taken : Found (Part ℕ) → ℕ → Part ℕ
+taken (good r) at = r
+taken (fault k place) at = record { content = 0; next = at }
 
 -- the number at a place of the file s
 unfoldable pub one_number : List ℕ → ℕ → Part ℕ

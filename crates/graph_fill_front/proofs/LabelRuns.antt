@@ -4,13 +4,13 @@ use Prim.Native.Nat.{ℕ, ◌+◌, ◌-◌, ◌<◌, ◌≤◌}
 use mathlib.Core.Path.{◌≡◌, refl, sym, ap, ◌∙◌}
 use mathlib.Core.List.{List, [], ◌∷◌, ◌++◌, map, flatten}
 use native.Mathlib.Omega.{arith}
-use lib.ListN.{length, take, drop, set, length-set, length-append, length-drop, length-map}
+use lib.ListN.{length, length-take, take, drop, set, length-append, length-drop, length-map}
 use lib.Seq.{length-take-le}
 use borrow.Rule.Slice.PartMut.{mid_of, put_mid}
 use Rattle.wire.specs.Found.{good, Part}
 use Rattle.wire.specs.Lent.{front}
-use Rattle.wire.specs.Sizes.{full_letters, full_lengths}
-use Rattle.wire.proofs.Rest.{put_rest, front_length}
+use Rattle.wire.specs.Sizes.{full_letters}
+use Rattle.wire.proofs.Rest.{put_rest}
 use Rattle.graph.specs.Reading.{labels_from}
 use Rattle.graph_fill.specs.Filling.{items, one_number, one_label, labels_in}
 use Rattle.graph_fill.proofs.Items.{content-more, next_more, length-items}
@@ -18,52 +18,40 @@ use Rattle.graph_fill.proofs.Fronts.{front-more}
 use Rattle.graph_fill.proofs.Packing.{flatten-more, lengths-more}
 use Rattle.graph_fill.proofs.Decoding.{label_stands}
 
--- the first i labels of n, of `sum` letters, stand at the front; the next one is at the place `at`
-pub record LabelsFilled (s : List ℕ) (start n : ℕ) (letters₀ lengths₀ letters lengths : List ℕ) (at sum i : ℕ) : Type 0 where
-  pub upto : i ≤ n
+-- the first i labels, of `sum` letters, stand at the front; the next one is at the place `at`
+pub record LabelsFilled (s : List ℕ) (start : ℕ) (letters₀ lengths₀ letters lengths : List ℕ) (at sum i : ℕ) : Type 0 where
   pub place : at ≡ (labels_in s i start).next
   pub count : sum ≡ length (flatten (labels_in s i start).content)
   pub few : sum ≤ full_letters
   pub packed : letters ≡ front (flatten (labels_in s i start).content) letters₀
   pub numbers : lengths ≡ front (map length (labels_in s i start).content) lengths₀
-  pub long-letters : length letters ≡ length letters₀
-  pub long-lengths : length lengths ≡ length lengths₀
 
-pub labels-none : (s : List ℕ) (start n : ℕ) (letters₀ lengths₀ : List ℕ) → LabelsFilled s start n letters₀ lengths₀ letters₀ lengths₀ start 0 0
+pub labels-none : (s : List ℕ) (start : ℕ) (letters₀ lengths₀ : List ℕ) → LabelsFilled s start letters₀ lengths₀ letters₀ lengths₀ start 0 0
 unfolding items flatten
-labels-none s start n letters₀ lengths₀ =
-    record {
-      upto = omega arith;
-      place = refl;
-      count = refl;
-      few = omega arith;
-      packed = refl;
-      numbers = refl;
-      long-letters = refl;
-      long-lengths = refl;
-    }
+labels-none s start letters₀ lengths₀ = record { place = refl; count = refl; few = omega arith; packed = refl; numbers = refl }
 
 label_is_lem : (s : List ℕ) (at len first : ℕ) → len ≡ (one_number s at).content → first ≡ (one_number s at).next
     → ◌≡◌ {A = Part (List ℕ)} (record { content = take len (drop first s); next = first + len }) (one_label s at)
 unfolding one_label
 label_is_lem s at len first e f = rw (e, f)
 
-module _ (s : List ℕ) (start n : ℕ) (letters₀ lengths₀ letters lengths : List ℕ) (at sum i len first : ℕ) (ok : labels_from n 0 s start ≡ good (labels_in s n start))
-    (h : i < n) (v : len ≡ (one_number s at).content) (f : first ≡ (one_number s at).next) (p : LabelsFilled s start n letters₀ lengths₀ letters lengths at sum i) where
+module _ (n : ℕ) (lengths₀ : List ℕ) {s : List ℕ} {start : ℕ} {letters₀ letters lengths : List ℕ} {at sum i len first : ℕ} (ok : labels_from n 0 s start ≡ good (labels_in s n start))
+    (v : len ≡ (one_number s at).content) (f : first ≡ (one_number s at).next) (p : LabelsFilled s start letters₀ (take n lengths₀) letters lengths at sum i)
+    (h : i < length (take n lengths₀)) where
   -- the label at hand stands in the file, and its letters have room
   pub label_fits : (first + len ≤ length s) × (sum + len ≤ full_letters)
   label_fits =
-      let t = label_stands i n 0 s start (labels_in s n start) h ok in
+      let t = label_stands i n 0 s start (labels_in s n start) (omega (arith, length-take n lengths₀)) ok in
       let e : one_number s at ≡ one_number s (labels_in s i start).next = ap (one_number s) p.place in
       (rw (v, f, e) t.within, rw (v, e, p.count) (omega (arith, t.few)))
 
   -- one label more: its length, then its letters in the rest that `ys` is when it is back
-  pub labels-more : (ys : List ℕ) (end put : ℕ) → n ≤ full_lengths → full_letters ≤ length letters₀ → full_lengths ≤ length lengths₀
+  pub labels-more : (ys : List ℕ) (end put : ℕ)
       → end ≡ first + len
       → put ≡ length (mid_of first (end - first) s)
       → ys ≡ front (mid_of first (end - first) s) (mid_of sum (length letters - sum) letters)
-      → LabelsFilled s start n letters₀ lengths₀ (put_mid sum (length letters - sum) letters ys) (set lengths i len) end (sum + put) (i + 1)
-  labels-more ys end put few big many e q' g' =
+      → LabelsFilled s start letters₀ (take n lengths₀) (put_mid sum (length letters - sum) letters ys) (set lengths i len) end (sum + put) (i + 1)
+  labels-more ys end put e q' g' =
       let one = one_label s in
       let k = label_fits in
       let w = label_is_lem s at len first v f ∙ ap one p.place in
@@ -80,16 +68,13 @@ module _ (s : List ℕ) (start n : ℕ) (letters₀ lengths₀ letters lengths :
       let b : put_mid sum (length letters - sum) letters ys ≡ front (flatten (labels_in s (i + 1) start).content) letters₀ =
       put_rest letters₀ (flatten ls) label letters ys sum p.count p.packed g ∙ rw c in
       record {
-        upto = omega arith;
         place = e ∙ ap (λ (t : Part (List ℕ)). t.next) w ∙ sym (next_more one i start);
         count = d;
         few = omega (arith, k.1);
         packed = b;
-        numbers = front-more (map length ls) _ lengths lengths₀ i len
+        numbers = front-more (map length ls) _ lengths _ i len
             (length-map ls length ∙ length-items one i start)
-            (omega arith)
+            h
             p.numbers
             (ap (map length) m ∙ lengths-more ls label ∙ rw l);
-        long-letters = ap length b ∙ front_length (flatten (labels_in s (i + 1) start).content) letters₀ (omega (arith, d, k.1));
-        long-lengths = simp length-set p.long-lengths;
       }

@@ -8,8 +8,9 @@ ghost use Rattle.graph.specs.Reading.{labels_from};
 ghost use Rattle.graph_fill.specs.Filling.{labels_in};
 
 use graph_fill::numbers::take_number;
+use wire::numbers::Cursor;
 use wire::sizes::{FULL_LENGTHS, FULL_LETTERS};
-use wire_lent::{zero_rest_u8, zero_rest_u32};
+use wire_lent::zero_rest;
 use wire_letters::put_letters;
 
 // The n labels from the place `start` on, which the check has accepted.
@@ -18,18 +19,15 @@ pub fn fill_labels(file: &[u8], start: usize, n: usize, letters: &mut [u8], leng
     requires n_le_full_lengths { (n ≤ full_lengths) × (full_letters ≤ length letters.old) × (full_lengths ≤ length lengths.old) }
     ensures { (letters.new ≡ laid full_letters (flatten (labels_in file.now n start).content) letters.old) × (lengths.new ≡ laid full_lengths (map length (labels_in file.now n start).content) lengths.old) }
 {
-    let mut at = start;
+    let mut cursor = Cursor { at: start };
     let mut sum: usize = 0;
-    let mut i: usize = 0;
-    while i < n {
-        let length = take_number(file, at);
-        let first = length.next;
-        let end = first + length.value as usize;
-        lengths[i] = length.value;
-        sum += put_letters(&mut letters[sum..], &file[first..end]);
-        at = end;
-        i += 1;
+    for place in lengths[..n].iter_mut() {
+        let (length, first) = take_number(file, cursor);
+        *place = length;
+        let end = first.at + length as usize;
+        sum += put_letters(&mut letters[sum..], &file[first.at..end]);
+        cursor = Cursor { at: end };
     }
-    zero_rest_u8(letters, sum, FULL_LETTERS);
-    zero_rest_u32(lengths, n, FULL_LENGTHS);
+    zero_rest(letters, sum, FULL_LETTERS);
+    zero_rest(lengths, n, FULL_LENGTHS);
 }

@@ -5,10 +5,8 @@ use mathlib.Core.Path.{◌≡◌, sym, ap, ◌∙◌}
 use mathlib.Core.List.{List, [], ◌∷◌}
 use native.Mathlib.Omega.{arith}
 use native.Mathlib.Numerals.{sub-one}
-use Rattle.wire.specs.Found.{Found, good, fault, Part, and_then, number, refuse}
-use Rattle.wire.specs.Numbers.{number_at}
-use Rattle.wire.specs.declared.numbers.Cursor.{Cursor}
-use Rattle.wire.specs.declared.numbers.Number.TheVariants.{Value, Fault}
+use Rattle.wire.specs.Found.{Found, good, fault, Part, and_then, refuse}
+use Rattle.wire.specs.Numbers.{number, number_at}
 use Rattle.graph.specs.Content.{Edge}
 use Rattle.graph.specs.Rules.{edge_fault}
 use Rattle.graph.specs.Reading.{edges_from}
@@ -33,26 +31,26 @@ edges-suc n zero last s at h = absurd (omega arith)
 edges-suc n (suc left) last s at h = ap (λ (k : ℕ). number s at (λ u a. number s a (edge_on n k last s at u))) (sym (sub-one (suc left)))
 
 module _ (n left : ℕ) (last : Edge) (s : List ℕ) (at : ℕ) (h : 0 < left) where
-  pub edges-stop : {k p : ℕ} → number_at s at ≡ Fault k p → edges_from n left last s at ≡ fault k p
+  pub edges-stop : {k p : ℕ} → number_at s at ≡ fault k p → edges_from n left last s at ≡ fault k p
   edges-stop e = edges-suc n left last s at h ∙ number-stop s at _ e
 
-  module _ {u : ℕ} {a : Cursor} (e : number_at s at ≡ Value u a) where
-    from_first : edges_from n left last s at ≡ number s a.at (edge_on n (left - 1) last s at u)
+  module _ {u : ℕ} {a : ℕ} (e : number_at s at ≡ good (record { content = u; next = a })) where
+    from_first : edges_from n left last s at ≡ number s a (edge_on n (left - 1) last s at u)
     from_first = edges-suc n left last s at h ∙ number_read s at _ e
 
-    pub edges-stop_second : {k p : ℕ} → number_at s a.at ≡ Fault k p → edges_from n left last s at ≡ fault k p
-    edges-stop_second f = from_first ∙ number-stop s a.at _ f
+    pub edges-stop_second : {k p : ℕ} → number_at s a ≡ fault k p → edges_from n left last s at ≡ fault k p
+    edges-stop_second f = from_first ∙ number-stop s a _ f
 
-    module _ {v : ℕ} {b : Cursor} (f : number_at s a.at ≡ Value v b) where
-      from-edge : edges_from n left last s at ≡ edge_on n (left - 1) last s at u v b.at
-      from-edge = from_first ∙ number_read s a.at (edge_on n (left - 1) last s at u) f
+    module _ {v : ℕ} {b : ℕ} (f : number_at s a ≡ good (record { content = v; next = b })) where
+      from-edge : edges_from n left last s at ≡ edge_on n (left - 1) last s at u v b
+      from-edge = from_first ∙ number_read s a (edge_on n (left - 1) last s at u) f
 
       pub edges_bad : (edge_fault n last (record { from = u; to = v }) ≡ 0 → ⊥)
           → edges_from n left last s at ≡ fault (edge_fault n last (record { from = u; to = v })) at
       edges_bad g = from-edge ∙ refuse-some (edge_fault n last (record { from = u; to = v })) at _ g
 
       pub edges-next : (x : ℕ) → edge_fault n last (record { from = u; to = v }) ≡ 0
-          → answered x (edges_from n left last s at) ≡ answered x (edges_from n (left - 1) (record { from = u; to = v }) s b.at)
+          → answered x (edges_from n left last s at) ≡ answered x (edges_from n (left - 1) (record { from = u; to = v }) s b)
       edges-next x g =
           ap (answered x) (from-edge ∙ refuse-none (edge_fault n last (record { from = u; to = v })) at _ g)
-          ∙ answered-more x (edges_from n (left - 1) (record { from = u; to = v }) s b.at) (λ (es : List Edge). record { from = u; to = v } ∷ es)
+          ∙ answered-more x (edges_from n (left - 1) (record { from = u; to = v }) s b) (λ (es : List Edge). record { from = u; to = v } ∷ es)

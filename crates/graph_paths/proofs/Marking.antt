@@ -1,37 +1,40 @@
 -- Flags of vertices: how they start, what marking a vertex adds, and what it means that all are marked.
 -- Assumes nothing.
-use Prim.Native.Nat.{ℕ, zero, suc, ◌-◌, ◌≤◌, ◌<◌}
+use Prim.Native.Nat.{ℕ, zero, suc, ◌+◌, ◌-◌, ◌≤◌, ◌<◌}
 use mathlib.Core.Path.{◌≡◌, refl, sym, ap, ap₂, ◌∙◌}
 use mathlib.Core.List.{List, [], ◌∷◌, ◌++◌}
-use mathlib.Core.Bool.{Bool, true, false, ◌&&◌, ◌||◌, and-true, and-false, or-true, or-false, or_assoc}
+use mathlib.Core.Bool.{Bool, true, false, ◌&&◌, ◌||◌, and-false, or-true, or-false, or_assoc}
 use native.Mathlib.Omega.{arith}
 use native.Mathlib.Decide.{ℕ_discrete}
-use native.Mathlib.Numerals.{sub-one}
+use native.Mathlib.Numerals.{add-one, sub-one}
 use lib.ListN.{length, get_or, set, replicate, length-replicate, length-set}
 use lib.Seq.{get_or-set_same, get_or-set_other}
 use lib.Dec.{eqb}
 use borrow.Author.Tests.{eq-eqb, ne_eqb}
 use Rattle.wire.specs.Sizes.{most_vertices}
 use Rattle.graph.specs.Rules.{is_on, is_on_any, all_on}
-use Rattle.graph_paths.specs.Marks.{flag_of, Marks, no_marks, all_marked}
+use Rattle.graph_paths.specs.Marks.{Marks, no_marks, all_marked}
 
--- ---- the loop of the test, from the last vertex down
+-- ---- the loop of the test
 
-module _ (flags : List ℕ) where
+module _ (flags : List Bool) where
   pub marked-none : (v : ℕ) → v ≤ 0 → all_marked flags v ≡ true
   unfolding all_marked
   marked-none zero h = refl
   marked-none (suc v) h = absurd (omega arith)
 
-  pub marked-not : (v : ℕ) → 0 < v → (get_or flags (v - 1) 0 ≡ 1 → ⊥) → all_marked flags v ≡ false
+  pub marked-not : (n v : ℕ) → v < n → get_or flags v false ≡ false → all_marked flags n ≡ false
   unfolding all_marked
-  marked-not zero h n = absurd (omega arith)
-  marked-not (suc v) h n = simp (ne_eqb (get_or flags v 0) 1 (rw (sub-one (suc v)) at n), and-false)
+  marked-not zero v h e = absurd (omega arith)
+  marked-not (suc n) v h e =
+      elim (ℕ_discrete v n) [
+        | yes q ↦ simp (sym (ap (λ (k : ℕ). get_or flags k false) q) ∙ e, and-false)
+        | no q ↦ simp (marked-not n v (omega arith) e)
+      ]
 
-  pub marked_more : (v : ℕ) → 0 < v → get_or flags (v - 1) 0 ≡ 1 → all_marked flags v ≡ all_marked flags (v - 1)
+  pub marked_more : (v : ℕ) → get_or flags v false ≡ true → all_marked flags v ≡ true → all_marked flags (v + 1) ≡ true
   unfolding all_marked
-  marked_more zero h e = absurd (omega arith)
-  marked_more (suc v) h e = simp (sub-one (suc v), eq-eqb (get_or flags v 0) 1 (rw (sub-one (suc v)) at e), and-true)
+  marked_more v e h = ap (all_marked flags) (add-one v) ∙ simp (e, h)
 
 -- ---- a vertex that is added to the last path
 
@@ -68,73 +71,69 @@ on_none ps w = on_any_append ps ([] ∷ []) w ∙ or-false (is_on_any ps w)
 
 -- ---- what the flags say
 
--- all 0 at the start: no path is read yet
-pub marks_none : (flags : List ℕ) (n : ℕ) → n ≤ length flags → ((i : ℕ) → get_or flags i 0 ≡ 0) → Marks flags n []
+-- none at the start: no path is read yet
+pub marks_none : (flags : List Bool) (n : ℕ) → n ≤ length flags → ((i : ℕ) → get_or flags i false ≡ false) → Marks flags n []
 unfolding is_on_any
 marks_none flags n h z = record { room = h; each = λ v a b. z (v - 1) }
 
-zeros_at : (k i : ℕ) → get_or {A = ℕ} (replicate k 0) i 0 ≡ 0
-zeros_at zero i = refl
-zeros_at (suc k) zero = refl
-zeros_at (suc k) (suc i) = zeros_at k i
+none_at : (k i : ℕ) → get_or {A = Bool} (replicate k false) i false ≡ false
+none_at zero i = refl
+none_at (suc k) zero = refl
+none_at (suc k) (suc i) = none_at k i
 
-no_marks_at : (i : ℕ) → get_or no_marks i 0 ≡ 0
+no_marks_at : (i : ℕ) → get_or no_marks i false ≡ false
 unfolding no_marks
-no_marks_at i = zeros_at most_vertices i
+no_marks_at i = none_at most_vertices i
 
 length_no_marks : length no_marks ≡ most_vertices
 unfolding no_marks
-length_no_marks = length-replicate {A = ℕ} most_vertices 0
+length_no_marks = length-replicate {A = Bool} most_vertices false
 
-pub marks_start : (flags : List ℕ) (n : ℕ) → flags ≡ no_marks → n ≤ most_vertices → Marks flags n []
+pub marks_start : (flags : List Bool) (n : ℕ) → flags ≡ no_marks → n ≤ most_vertices → Marks flags n []
 marks_start flags n e h =
     rw e (marks_none no_marks n (omega (arith, length_no_marks)) no_marks_at)
 
 -- the same vertices are on the paths
-pub marks_same : (flags : List ℕ) (n : ℕ) (ps qs : List (List ℕ)) → ((w : ℕ) → is_on_any qs w ≡ is_on_any ps w) → Marks flags n ps → Marks flags n qs
-marks_same flags n ps qs e m = record { room = m.room; each = λ v a b. m.each v a b ∙ ap flag_of (sym (e v)) }
+pub marks_same : (flags : List Bool) (n : ℕ) (ps qs : List (List ℕ)) → ((w : ℕ) → is_on_any qs w ≡ is_on_any ps w) → Marks flags n ps → Marks flags n qs
+marks_same flags n ps qs e m = record { room = m.room; each = λ v a b. m.each v a b ∙ sym (e v) }
 
 -- a vertex more is on the paths
-pub marks_more : (flags : List ℕ) (n : ℕ) (ps qs : List (List ℕ)) (v : ℕ) → 1 ≤ v → v ≤ n
-    → ((w : ℕ) → is_on_any qs w ≡ is_on_any ps w || eqb v w) → Marks flags n ps → Marks (set flags (v - 1) 1) n qs
+pub marks_more : (flags : List Bool) (n : ℕ) (ps qs : List (List ℕ)) (v : ℕ) → 1 ≤ v → v ≤ n
+    → ((w : ℕ) → is_on_any qs w ≡ is_on_any ps w || eqb v w) → Marks flags n ps → Marks (set flags (v - 1) true) n qs
 marks_more flags n ps qs v h k e m = record { room = simp length-set m.room; each = each }
   where
-    each : (w : ℕ) → 1 ≤ w → w ≤ n → get_or (set flags (v - 1) 1) (w - 1) 0 ≡ flag_of (is_on_any qs w)
+    each : (w : ℕ) → 1 ≤ w → w ≤ n → get_or (set flags (v - 1) true) (w - 1) false ≡ is_on_any qs w
     each w a b =
         elim (ℕ_discrete v w) [
-          | yes q ↦ ap (λ (i : ℕ). get_or (set flags (v - 1) 1) (i - 1) 0) (sym q)
-              ∙ get_or-set_same flags (v - 1) 1 0 (omega (arith, m.room))
-              ∙ ap flag_of (sym (e w ∙ ap (λ (t : Bool). is_on_any ps w || t) (eq-eqb v w q) ∙ or-true (is_on_any ps w)))
-          | no q ↦ get_or-set_other flags (v - 1) (w - 1) 1 0 (λ z. q (omega arith))
+          | yes q ↦ ap (λ (i : ℕ). get_or (set flags (v - 1) true) (i - 1) false) (sym q)
+              ∙ get_or-set_same flags (v - 1) true false (omega (arith, m.room))
+              ∙ sym (e w ∙ ap (λ (t : Bool). is_on_any ps w || t) (eq-eqb v w q) ∙ or-true (is_on_any ps w))
+          | no q ↦ get_or-set_other flags (v - 1) (w - 1) true false (λ z. q (omega arith))
               ∙ m.each w a b
-              ∙ ap flag_of (sym (e w ∙ ap (λ (t : Bool). is_on_any ps w || t) (ne_eqb v w q) ∙ or-false (is_on_any ps w)))
+              ∙ sym (e w ∙ ap (λ (t : Bool). is_on_any ps w || t) (ne_eqb v w q) ∙ or-false (is_on_any ps w))
         ]
 
 -- the vertex is added to the last path
-pub marks_vertex : (flags : List ℕ) (n : ℕ) (ps : List (List ℕ)) (p : List ℕ) (v : ℕ) → 1 ≤ v → v ≤ n → Marks flags n (ps ++ (p ∷ []))
-    → Marks (set flags (v - 1) 1) n (ps ++ ((p ++ (v ∷ [])) ∷ []))
+pub marks_vertex : (flags : List Bool) (n : ℕ) (ps : List (List ℕ)) (p : List ℕ) (v : ℕ) → 1 ≤ v → v ≤ n → Marks flags n (ps ++ (p ∷ []))
+    → Marks (set flags (v - 1) true) n (ps ++ ((p ++ (v ∷ [])) ∷ []))
 marks_vertex flags n ps p v h k m =
     marks_more flags n (ps ++ (p ∷ [])) (ps ++ ((p ++ (v ∷ [])) ∷ [])) v h k (on-more ps p v) m
 
 -- a path begins
-pub marks_path : (flags : List ℕ) (n : ℕ) (ps : List (List ℕ)) → Marks flags n ps → Marks flags n (ps ++ ([] ∷ []))
+pub marks_path : (flags : List Bool) (n : ℕ) (ps : List (List ℕ)) → Marks flags n ps → Marks flags n (ps ++ ([] ∷ []))
 marks_path flags n ps m = marks_same flags n ps (ps ++ ([] ∷ [])) (on_none ps) m
 
-flag_yes : (b : Bool) → eqb (flag_of b) 1 ≡ b
-flag_yes true = refl
-flag_yes false = refl
-
-all-zero : (flags : List ℕ) (ps : List (List ℕ)) → all_marked flags 0 ≡ all_on ps 0
+all-zero : (flags : List Bool) (ps : List (List ℕ)) → all_marked flags 0 ≡ all_on ps 0
 unfolding all_marked all_on
 all-zero flags ps = refl
 
-all-suc : (flags : List ℕ) (ps : List (List ℕ)) (k : ℕ) → all_marked flags k ≡ all_on ps k → eqb (get_or flags k 0) 1 ≡ is_on_any ps (suc k)
+all-suc : (flags : List Bool) (ps : List (List ℕ)) (k : ℕ) → all_marked flags k ≡ all_on ps k → get_or flags k false ≡ is_on_any ps (suc k)
     → all_marked flags (suc k) ≡ all_on ps (suc k)
 unfolding all_marked all_on
 all-suc flags ps k e f = ap₂ ◌&&◌ e f
 
 -- all are marked exactly if the vertices 1 to n are on the paths
-pub marks_all : (flags : List ℕ) (n : ℕ) (ps : List (List ℕ)) → Marks flags n ps → all_marked flags n ≡ all_on ps n
+pub marks_all : (flags : List Bool) (n : ℕ) (ps : List (List ℕ)) → Marks flags n ps → all_marked flags n ≡ all_on ps n
 marks_all flags n ps m = go n (omega arith)
   where
     go : (k : ℕ) → k ≤ n → all_marked flags k ≡ all_on ps k
@@ -142,4 +141,4 @@ marks_all flags n ps m = go n (omega arith)
     go (suc k) h =
         all-suc flags ps k
         (go k (omega arith))
-        (ap (λ (t : ℕ). eqb t 1) (rw (sub-one (suc k)) at (m.each (suc k) (omega arith) h)) ∙ flag_yes (is_on_any ps (suc k)))
+        (rw (sub-one (suc k)) at (m.each (suc k) (omega arith) h))

@@ -11,11 +11,8 @@ use native.Mathlib.Decide.{ℕ_discrete}
 use lib.Dec.{ltb, eqb}
 use borrow.Author.Tests.{ltb-true, ltb-false, eqb-true, eq-eqb, ne_eqb}
 use Rattle.wire.specs.Cases.{pick}
-use Rattle.wire.specs.Found.{good, Part}
+use Rattle.wire.specs.Found.{good, Part, fault, Found}
 use Rattle.wire.specs.Numbers.{number_at}
-use Rattle.wire.specs.declared.numbers.Cursor.{Cursor}
-use Rattle.wire.specs.declared.numbers.Number.{Number}
-use Rattle.wire.specs.declared.numbers.Number.TheVariants.{Value, Fault}
 use Rattle.graph.specs.Content.{Edge}
 use Rattle.graph.specs.Good.{All, EdgeBelow}
 use Rattle.graph.specs.Rules.{edge_below, is_edge}
@@ -57,38 +54,38 @@ search_suc (suc left) s at u v h =
     (sym (sub-one (suc left)))
 
 module _ (left : ℕ) (s : List ℕ) (at u v : ℕ) (h : 0 < left) where
-  pub search_stop : {k p : ℕ} → number_at s at ≡ Fault k p → search_at left s at u v ≡ not-here at left
+  pub search_stop : {k p : ℕ} → number_at s at ≡ fault k p → search_at left s at u v ≡ not-here at left
   search_stop e =
       search_suc left s at u v h
-      ∙ ap (λ (r : Number). read_or (not-here at left) r (λ x a. read_or (not-here at left) (number_at s a) (look_on left (left - 1) s at u v x))) e
+      ∙ ap (λ (r : Found (Part ℕ)). read_or (not-here at left) r (λ x a. read_or (not-here at left) (number_at s a) (look_on left (left - 1) s at u v x))) e
 
-  module _ {x : ℕ} {a : Cursor} (e : number_at s at ≡ Value x a) where
-    from_first : search_at left s at u v ≡ read_or (not-here at left) (number_at s a.at) (look_on left (left - 1) s at u v x)
+  module _ {x : ℕ} {a : ℕ} (e : number_at s at ≡ good (record { content = x; next = a })) where
+    from_first : search_at left s at u v ≡ read_or (not-here at left) (number_at s a) (look_on left (left - 1) s at u v x)
     from_first =
         search_suc left s at u v h
-        ∙ ap (λ (r : Number). read_or (not-here at left) r (λ x a. read_or (not-here at left) (number_at s a) (look_on left (left - 1) s at u v x))) e
+        ∙ ap (λ (r : Found (Part ℕ)). read_or (not-here at left) r (λ x a. read_or (not-here at left) (number_at s a) (look_on left (left - 1) s at u v x))) e
 
-    pub search_stop_second : {k p : ℕ} → number_at s a.at ≡ Fault k p → search_at left s at u v ≡ not-here at left
-    search_stop_second f = from_first ∙ ap (λ (r : Number). read_or (not-here at left) r (look_on left (left - 1) s at u v x)) f
+    pub search_stop_second : {k p : ℕ} → number_at s a ≡ fault k p → search_at left s at u v ≡ not-here at left
+    search_stop_second f = from_first ∙ ap (λ (r : Found (Part ℕ)). read_or (not-here at left) r (look_on left (left - 1) s at u v x)) f
 
-    module _ {y : ℕ} {b : Cursor} (f : number_at s a.at ≡ Value y b) where
-      from-edge : search_at left s at u v ≡ look_on left (left - 1) s at u v x y b.at
-      from-edge = from_first ∙ ap (λ (r : Number). read_or (not-here at left) r (look_on left (left - 1) s at u v x)) f
+    module _ {y : ℕ} {b : ℕ} (f : number_at s a ≡ good (record { content = y; next = b })) where
+      from-edge : search_at left s at u v ≡ look_on left (left - 1) s at u v x y b
+      from-edge = from_first ∙ ap (λ (r : Found (Part ℕ)). read_or (not-here at left) r (look_on left (left - 1) s at u v x)) f
 
       pub search_end : edge_below (record { from = x; to = y }) (record { from = u; to = v }) ≡ false
           → search_at left s at u v ≡ record { found = same_edge (record { from = x; to = y }) u v; at = at; left = left }
       search_end g =
           from-edge
           ∙ ap
-          (λ (t : Bool). pick t (search_at (left - 1) s b.at u v) (record { found = same_edge (record { from = x; to = y }) u v; at = at; left = left }))
+          (λ (t : Bool). pick t (search_at (left - 1) s b u v) (record { found = same_edge (record { from = x; to = y }) u v; at = at; left = left }))
           g
 
       pub search_next : edge_below (record { from = x; to = y }) (record { from = u; to = v }) ≡ true
-          → search_at left s at u v ≡ search_at (left - 1) s b.at u v
+          → search_at left s at u v ≡ search_at (left - 1) s b u v
       search_next g =
           from-edge
           ∙ ap
-          (λ (t : Bool). pick t (search_at (left - 1) s b.at u v) (record { found = same_edge (record { from = x; to = y }) u v; at = at; left = left }))
+          (λ (t : Bool). pick t (search_at (left - 1) s b u v) (record { found = same_edge (record { from = x; to = y }) u v; at = at; left = left }))
           g
 
 -- ---- what the search finds
@@ -140,7 +137,7 @@ edges-above n (suc left) last s at r e =
     let t = edges_step n left last s at r e in
     let d : Edge = record { from = t.u; to = t.v } in
     let k = (edge_kept n last d t.kept).2 in
-    rw t.content (k, above_more last d t.rest.content k (edges-above n left d s t.b.at t.rest t.rest_is))
+    rw t.content (k, above_more last d t.rest.content k (edges-above n left d s t.b t.rest t.rest_is))
 
 -- edges that are all above an edge: what is not above it is not among them
 above-not : (last : Edge) (es : List Edge) (u v : ℕ) → All (EdgeBelow last) es → edge_below last (record { from = u; to = v }) ≡ false
@@ -178,7 +175,7 @@ searched_end : (n left : ℕ) (last : Edge) (s : List ℕ) (at : ℕ) (p : Part 
 unfolding All is_edge
 searched_end n left last s at p u v e t g =
     let d : Edge = record { from = t.u; to = t.v } in
-    let w = above-not d t.rest.content u v (edges-above n left d s t.b.at t.rest t.rest_is) g in
+    let w = above-not d t.rest.content u v (edges-above n left d s t.b t.rest t.rest_is) g in
     rw (search_end (suc left) s at u v (omega arith) t.u_is t.v_is g)
     (record {
       found = sym (ap (λ (es : List Edge). is_edge es u v) t.content ∙ ap (λ (b : Bool). ◌||◌ (same_edge d u v) b) w ∙ or-false (same_edge d u v));
@@ -193,14 +190,14 @@ searched_end n left last s at p u v e t g =
 -- the search passes the first edge
 searched_next : (n left : ℕ) (last : Edge) (s : List ℕ) (at : ℕ) (p : Part (List Edge)) (u v : ℕ) (t : EdgeStep n left last s at p)
     → edge_below (record { from = t.u; to = t.v }) (record { from = u; to = v }) ≡ true
-    → Searched n s t.rest.content t.rest.next u v (search_at left s t.b.at u v)
+    → Searched n s t.rest.content t.rest.next u v (search_at left s t.b u v)
     → Searched n s p.content p.next u v (search_at (suc left) s at u v)
 unfolding All is_edge
 searched_next n left last s at p u v t g i =
     let d : Edge = record { from = t.u; to = t.v } in
     let k = below_yes d (record { from = u; to = v }) g in
     let no : same_edge d u v ≡ false = differs d u v (λ a b. omega (arith, k.1 a)) in
-    rw (search_next (suc left) s at u v (omega arith) t.u_is t.v_is g ∙ ap (λ (j : ℕ). search_at j s t.b.at u v) (sub-one (suc left)))
+    rw (search_next (suc left) s at u v (omega arith) t.u_is t.v_is g ∙ ap (λ (j : ℕ). search_at j s t.b u v) (sub-one (suc left)))
     (record {
       found = i.found ∙ sym (ap (λ (es : List Edge). is_edge es u v) t.content ∙ ap (λ (b : Bool). ◌||◌ b (is_edge t.rest.content u v)) no);
       passed = d ∷ i.passed;
@@ -218,5 +215,5 @@ searched n (suc left) last s at p u v e =
     let t = edges_step n left last s at p e in
     test (edge_below (record { from = t.u; to = t.v }) (record { from = u; to = v }))
     (λ g. searched_next n left last s at p u v t g
-    (searched n left (record { from = t.u; to = t.v }) s t.b.at t.rest u v t.rest_is))
+    (searched n left (record { from = t.u; to = t.v }) s t.b t.rest u v t.rest_is))
     (λ g. searched_end n left last s at p u v e t g)

@@ -8,12 +8,9 @@ use native.Mathlib.Omega.{arith}
 use native.Mathlib.Numerals.{sub-one}
 use lib.ListN.{set}
 use Rattle.wire.specs.Cases.{pick}
-use Rattle.wire.specs.Found.{Found, good, fault, Part, and_then, on_number, number, refuse}
-use Rattle.wire.specs.Numbers.{number_at}
+use Rattle.wire.specs.Found.{Found, good, fault, Part, and_then, refuse}
+use Rattle.wire.specs.Numbers.{on_number, number, number_at}
 use Rattle.wire.specs.Refusals.{not_edge}
-use Rattle.wire.specs.declared.numbers.Cursor.{Cursor}
-use Rattle.wire.specs.declared.numbers.Number.{Number}
-use Rattle.wire.specs.declared.numbers.Number.TheVariants.{Value, Fault}
 use Rattle.graph.specs.Content.{Edge}
 use Rattle.graph.specs.Rules.{vertex_fault}
 use Rattle.graph.specs.Reading.{vertices_from, paths_from}
@@ -38,13 +35,13 @@ onward n es left s done path x =
     and_then x (λ r. prefixed (done ++ ((path ++ r.content) ∷ [])) (paths_from n es left s r.next))
 
 -- the paths `done` are read and marked, and what is found from here on is what follows them
-pub record Walked (n : ℕ) (es : List Edge) (k : ℕ) (s : List ℕ) (start : ℕ) (flags : List ℕ) (at todo : ℕ) : Type 0 where
+pub record Walked (n : ℕ) (es : List Edge) (k : ℕ) (s : List ℕ) (start : ℕ) (flags : List Bool) (at todo : ℕ) : Type 0 where
   pub done : List (List ℕ)
   pub marks : Marks flags n done
   pub same : paths_from n es k s start ≡ prefixed done (paths_from n es todo s at)
 
 -- the vertices `path` of a path are read and marked too, up to the vertex `last`, or 0; its steps are looked for from `edge` on
-pub record Walking (n : ℕ) (es : List Edge) (k : ℕ) (s : List ℕ) (start todo : ℕ) (flags : List ℕ) (at left last edge ahead : ℕ) : Type 0 where
+pub record Walking (n : ℕ) (es : List Edge) (k : ℕ) (s : List ℕ) (start todo : ℕ) (flags : List Bool) (at left last edge ahead : ℕ) : Type 0 where
   pub done : List (List ℕ)
   pub path : List ℕ
   pub marks : Marks flags n (done ++ (path ∷ []))
@@ -57,7 +54,7 @@ prefixed_none : (x : Found (Part (List (List ℕ)))) → x ≡ prefixed [] x
 prefixed_none (good r) = refl
 prefixed_none (fault k p) = refl
 
-pub walked_none : (n : ℕ) (es : List Edge) (k : ℕ) (s : List ℕ) (start : ℕ) (flags : List ℕ) → Marks flags n []
+pub walked_none : (n : ℕ) (es : List Edge) (k : ℕ) (s : List ℕ) (start : ℕ) (flags : List Bool) → Marks flags n []
     → Walked n es k s start flags start k
 walked_none n es k s start flags m = record { done = []; marks = m; same = prefixed_none (paths_from n es k s start) }
 
@@ -88,7 +85,7 @@ path-on : (n : ℕ) (es : List Edge) (left : ℕ) (s : List ℕ) (done : List (L
 path-on n es left s done (good p) = path_in done p.content (paths_from n es left s p.next)
 path-on n es left s done (fault k q) = refl
 
-module _ (n : ℕ) (es : List Edge) (k : ℕ) (s : List ℕ) (start : ℕ) (flags : List ℕ) (at todo : ℕ) (w : Walked n es k s start flags at todo) where
+module _ (n : ℕ) (es : List Edge) (k : ℕ) (s : List ℕ) (start : ℕ) (flags : List Bool) (at todo : ℕ) (w : Walked n es k s start flags at todo) where
   -- no path is left
   pub walked_done : todo ≡ 0 → paths_from n es k s start ≡ good (record { content = w.done; next = at })
   unfolding paths_from
@@ -98,22 +95,22 @@ module _ (n : ℕ) (es : List Edge) (k : ℕ) (s : List ℕ) (start : ℕ) (flag
       ∙ ap (λ (c : List (List ℕ)). good (record { content = c; next = at })) (append-nil w.done)
 
   -- the count is at fault
-  pub walked_stop : {i p : ℕ} → (todo ≡ 0 → ⊥) → count_at 1 n s at ≡ Fault i p → paths_from n es k s start ≡ fault i p
+  pub walked_stop : {i p : ℕ} → (todo ≡ 0 → ⊥) → count_at 1 n s at ≡ fault i p → paths_from n es k s start ≡ fault i p
   walked_stop h e =
       w.same
-      ∙ ap (prefixed w.done) (paths-suc n es todo s at h ∙ ap (λ (c : Number). on_number c (path_on n es (todo - 1) s)) e)
+      ∙ ap (prefixed w.done) (paths-suc n es todo s at h ∙ ap (λ (c : Found (Part ℕ)). on_number c (path_on n es (todo - 1) s)) e)
 
   -- a path begins
-  pub walking_start : {count : ℕ} {a : Cursor} (edge ahead : ℕ) → (todo ≡ 0 → ⊥) → count_at 1 n s at ≡ Value count a → Ahead n s es 0 edge ahead
-      → Walking n es k s start todo flags a.at count 0 edge ahead
+  pub walking_start : {count : ℕ} {a : ℕ} (edge ahead : ℕ) → (todo ≡ 0 → ⊥) → count_at 1 n s at ≡ good (record { content = count; next = a }) → Ahead n s es 0 edge ahead
+      → Walking n es k s start todo flags a count 0 edge ahead
   walking_start {count} {a} edge ahead h e d = record {
     done = w.done;
     path = [];
     marks = marks_path flags n w.done w.marks;
     edges = d;
     same = w.same
-        ∙ ap (prefixed w.done) (paths-suc n es todo s at h ∙ ap (λ (c : Number). on_number c (path_on n es (todo - 1) s)) e)
-        ∙ path-on n es (todo - 1) s w.done (vertices_from n es count 0 s a.at);
+        ∙ ap (prefixed w.done) (paths-suc n es todo s at h ∙ ap (λ (c : Found (Part ℕ)). on_number c (path_on n es (todo - 1) s)) e)
+        ∙ path-on n es (todo - 1) s w.done (vertices_from n es count 0 s a);
   }
 
 -- ---- the inner loop
@@ -138,7 +135,7 @@ vertex_in n es left s done path v (good r) =
     ap (λ (c : List ℕ). prefixed (done ++ (c ∷ [])) (paths_from n es left s r.next)) (sym (append_assoc path (v ∷ []) r.content))
 vertex_in n es left s done path v (fault k p) = refl
 
-module _ (n : ℕ) (es : List Edge) (k : ℕ) (s : List ℕ) (start todo : ℕ) (flags : List ℕ) (at left last edge ahead : ℕ)
+module _ (n : ℕ) (es : List Edge) (k : ℕ) (s : List ℕ) (start todo : ℕ) (flags : List Bool) (at left last edge ahead : ℕ)
     (w : Walking n es k s start todo flags at left last edge ahead) where
   -- a fault of the vertices is the answer
   at_fault : {i p : ℕ} → vertices_from n es left last s at ≡ fault i p → paths_from n es k s start ≡ fault i p
@@ -158,11 +155,11 @@ module _ (n : ℕ) (es : List Edge) (k : ℕ) (s : List ℕ) (start todo : ℕ) 
       }
 
   module _ (h : 0 < left) where
-    pub walking_stop : {i p : ℕ} → number_at s at ≡ Fault i p → paths_from n es k s start ≡ fault i p
+    pub walking_stop : {i p : ℕ} → number_at s at ≡ fault i p → paths_from n es k s start ≡ fault i p
     walking_stop e = at_fault (vertices-suc n es left last s at h ∙ number-stop s at _ e)
 
-    module _ {v : ℕ} {a : Cursor} (e : number_at s at ≡ Value v a) where
-      from-vertex : vertices_from n es left last s at ≡ vertex_on n es (left - 1) last s at v a.at
+    module _ {v : ℕ} {a : ℕ} (e : number_at s at ≡ good (record { content = v; next = a })) where
+      from-vertex : vertices_from n es left last s at ≡ vertex_on n es (left - 1) last s at v a
       from-vertex = vertices-suc n es left last s at h ∙ number_read s at (vertex_on n es (left - 1) last s at) e
 
       pub walking_bad : (rise_fault n last v ≡ 0 → ⊥) → paths_from n es k s start ≡ fault (rise_fault n last v) at
@@ -180,8 +177,8 @@ module _ (n : ℕ) (es : List Edge) (k : ℕ) (s : List ℕ) (start todo : ℕ) 
             vertex-step n es last v g ∙ ap (λ (b : Bool). pick b 0 not_edge) (sym step.found ∙ f) in
             at_fault (from-vertex ∙ refuse-some (vertex_fault n es last v) at _ (λ z. omega (arith, q, z)) ∙ ap (λ (j : ℕ). fault j at) q)
 
-        pub walking_next : {out : List ℕ} → r.found ≡ true → out ≡ set flags (v - 1) 1
-            → Walking n es k s start todo out a.at (left - 1) v r.at r.left
+        pub walking_next : {out : List Bool} → r.found ≡ true → out ≡ set flags (v - 1) true
+            → Walking n es k s start todo out a (left - 1) v r.at r.left
         walking_next f o =
             let q : vertex_fault n es last v ≡ 0 = vertex-step n es last v g ∙ ap (λ (b : Bool). pick b 0 not_edge) (sym step.found ∙ f) in
             let t = rise_kept n last v g in
@@ -192,15 +189,22 @@ module _ (n : ℕ) (es : List Edge) (k : ℕ) (s : List ℕ) (start todo : ℕ) 
               edges = step.ahead;
               same = w.same
                   ∙ ap (onward n es (todo - 1) s w.done w.path) (from-vertex ∙ refuse-none (vertex_fault n es last v) at _ q)
-                  ∙ vertex_in n es (todo - 1) s w.done w.path v (vertices_from n es (left - 1) v s a.at);
+                  ∙ vertex_in n es (todo - 1) s w.done w.path v (vertices_from n es (left - 1) v s a);
             }
 
 -- ---- the answer
 
-module _ (k n : ℕ) (flags : List ℕ) (x : Found (Part (List (List ℕ)))) where
-  pub answer-fault : {r : Number} {i p : ℕ} → r ≡ Fault i p → x ≡ fault i p → (r ≡ answered k x) × Marked flags n x
-  answer-fault e f = (e ∙ sym (ap (answered k) f), rw f tt)
+-- of paths that were not read, no flag says anything
+pub marked_fault : (flags : List Bool) (n : ℕ) {x : Found (Part (List (List ℕ)))} {i p : ℕ} → x ≡ fault i p → Marked flags n x
+marked_fault flags n f = rw f tt
 
+-- a number of vertices left, said in another way
+pub more_left : {n : ℕ} {es : List Edge} {k : ℕ} {s : List ℕ} {start todo : ℕ} {flags : List Bool} {at i j last edge ahead : ℕ} → i ≡ j
+    → Walking n es k s start todo flags at i last edge ahead → Walking n es k s start todo flags at j last edge ahead
+more_left {n} {es} {k} {s} {start} {todo} {flags} {at} {last = last} {edge} {ahead} e w =
+    subst (λ (m : ℕ). Walking n es k s start todo flags at m last edge ahead) e w
+
+module _ (k n : ℕ) (flags : List Bool) (x : Found (Part (List (List ℕ)))) where
   pub answer-good : {p : Part (List (List ℕ))} → x ≡ good p → Marks flags n p.content
-      → (Value k (record { at = p.next }) ≡ answered k x) × Marked flags n x
+      → (good (record { content = k; next = p.next }) ≡ answered k x) × Marked flags n x
   answer-good f m = (sym (ap (answered k) f), rw f m)

@@ -1,5 +1,5 @@
 -- The edges that a path's steps are looked for among, and what its flags say once the paths were read.
-use Rattle.std.specs.Prelude.{ℕ, List, []}
+use Rattle.std.specs.Prelude.{ℕ, List, [], Bool}
 use Rattle.wire.specs.Found.{Found, good, fault, Part}
 use Rattle.graph.specs.Content.{Edge}
 use Rattle.graph.specs.Rules.{no_edge}
@@ -25,6 +25,6 @@ abbrev pub edges_in : ℕ → ℕ → List ℕ → ℕ → List Edge
 edges_in n m s at = entries (edges_from n m no_edge s at)
 
 -- where the paths were read, the flags say which vertices are on them
-abbrev pub Marked : List ℕ → ℕ → Found (Part (List (List ℕ))) → Type 0
+abbrev pub Marked : List Bool → ℕ → Found (Part (List (List ℕ))) → Type 0
 Marked flags n (good p) = Marks flags n p.content
 Marked flags n (fault k place) = Unit {0}

@@ -2,20 +2,19 @@
 use Rattle.std.specs.Prelude.{ℕ, zero, suc, List, Bool, true, false, ◌&&◌, eqb}
 use Rattle.wire.specs.Cases.{pick}
 use Rattle.wire.specs.Numbers.{number_at}
-use Rattle.wire.specs.declared.numbers.Number.{Number}
-use Rattle.wire.specs.declared.numbers.Number.TheVariants.{Value, Fault}
 use Rattle.graph.specs.Content.{Edge}
 use Rattle.graph.specs.Rules.{edge_below}
 use Rattle.graph_paths.specs.declared.search.Search.{Search}
+use Rattle.wire.specs.Found.{Found, good, fault, Part}
 
 -- the edge e is u to v
 abbrev pub same_edge : Edge → ℕ → ℕ → Bool
 same_edge e u v = ◌&&◌ (eqb e.from u) (eqb e.to v)
 
 -- goes on with a number's value and the place after it, or gives the other answer
-abbrev pub read_or : {B : Type 0} → B → Number → (ℕ → ℕ → B) → B
-read_or b (Value x c) go = go x c.at
-read_or b (Fault k place) go = b
+abbrev pub read_or : {B : Type 0} → B → Found (Part ℕ) → (ℕ → ℕ → B) → B
+read_or b (good r) go = go r.content r.next
+read_or b (fault k place) go = b
 
 -- the search for u to v along the edges, `left` of them from a place on: it ends at the first edge that is not below
 unfoldable pub search_at : ℕ → List ℕ → ℕ → ℕ → ℕ → Search

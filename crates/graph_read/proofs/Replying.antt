@@ -3,8 +3,7 @@
 use Prim.Native.Nat.{ℕ, ◌*◌, ◌≤◌}
 use mathlib.Core.Path.{◌≡◌, refl, sym, ap, ◌∙◌}
 use mathlib.Core.List.{List, map, flatten}
-use mathlib.Core.Bool.{true, false}
-use native.Mathlib.Omega.{arith}
+use mathlib.Core.Bool.{Bool, true, false}
 use lib.ListN.{length}
 use lib.Dec.{leb}
 use borrow.Author.Tests.{leb-true}
@@ -15,10 +14,9 @@ use Rattle.wire.specs.Sizes.{most_edges, path_room, full_letters, full_lengths, 
 use Rattle.graph.specs.Content.{edge_numbers, path_numbers}
 use Rattle.graph.specs.Good.{All}
 use Rattle.graph.specs.Reading.{Parsed, labels_from, graph_of}
-use Rattle.graph.specs.Entries.{Buffers, roomy, read_reply, filled}
+use Rattle.graph.specs.Entries.{Buffers, room_for, roomy, read_reply, filled}
 use Rattle.graph_check.specs.Checked.{sections_of, checked_of}
 use Rattle.graph_check.specs.declared.Sections.{Sections}
-use Rattle.graph_check.specs.declared.Checked.TheVariants.{Accepted, Fault}
 use Rattle.graph.proofs.Kept.{both}
 use Rattle.graph.proofs.Parted.{parts}
 use Rattle.graph_read.specs.declared.GraphAnswer.{GraphAnswer}
@@ -26,10 +24,19 @@ use Rattle.graph_read.specs.Answer.{answer_of, counts_answer, Answered}
 use Rattle.graph_fill.specs.Filling.{labels_in, numbers_in, paths_in}
 use Rattle.graph_fill.proofs.Decoding.{labels-are, edges_are_lem, paths-are, paths_fit_lem}
 
+-- the buffers as they were lent
+abbrev pub lent : List ℕ → List ℕ → List ℕ → List ℕ → List ℕ → Buffers
+lent letters lengths edges paths counts = record { letters = letters; lengths = lengths; edges = edges; paths = paths; counts = counts }
+
+-- what the room test says
+pub room : (b : Buffers) {t d : Bool} → t ≡ room_for (length b.letters) (length b.lengths) (length b.edges) (length b.paths) (length b.counts) → t ≡ d → roomy b ≡ d
+unfolding roomy
+room b e f = sym e ∙ f
+
 -- ---- refusals
 
-pub fault-found : (x : Found Parsed) (k place : ℕ) → checked_of x ≡ Fault k place → x ≡ fault k place
-fault-found (good p) k place e = let z : ◌≡◌ {A = ℕ} 0 1 = cc in absurd (omega arith)
+pub fault-found : (x : Found Parsed) (k place : ℕ) → checked_of x ≡ fault k place → x ≡ fault k place
+fault-found (good p) k place e = absurd (cc)
 fault-found (fault j at) k place e = cc
 
 module _ (file : List ℕ) (b : Buffers) where
@@ -50,9 +57,9 @@ module _ (file : List ℕ) (b : Buffers) where
 
 -- ---- acceptance
 
-good-found : (x : Found Parsed) (sections : Sections) → checked_of x ≡ Accepted sections → (p : Parsed) × (x ≡ good p) × (sections ≡ sections_of p)
+good-found : (x : Found Parsed) (sections : Sections) → checked_of x ≡ good sections → (p : Parsed) × (x ≡ good p) × (sections ≡ sections_of p)
 good-found (good p) sections e = (p, refl, cc)
-good-found (fault k place) sections e = let z : ◌≡◌ {A = ℕ} 0 1 = cc in absurd (omega arith)
+good-found (fault k place) sections e = absurd (cc)
 
 -- what an accepted file's sections are, and that each has room
 pub record Ready (s : List ℕ) (sections : Sections) : Type 0 where
@@ -89,7 +96,7 @@ ready_parts s p e =
       few_paths = t.few_paths;
     }
 
-pub ready : (s : List ℕ) (sections : Sections) → checked_of (graph_of s) ≡ Accepted sections → Ready s sections
+pub ready : (s : List ℕ) (sections : Sections) → checked_of (graph_of s) ≡ good sections → Ready s sections
 ready s sections e =
     let g = good-found (graph_of s) sections e in
     rw g.2 (ready_parts s g.0 g.1)

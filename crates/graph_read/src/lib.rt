@@ -3,13 +3,15 @@
 
 ghost use Rattle.std.specs.Prelude.{◌≡◌};
 ghost use Rattle.wire.specs.Found.{refused};
+ghost use Rattle.wire.specs.Refusals.{code};
 ghost use Rattle.graph_read.specs.Answer.{answer_of, counts_answer, Answered};
 
-use graph_check::{Checked, Sections};
-use graph_fill::paths;
-use graph_fill_front::{edges, labels};
+use graph_check::{Sections, check_graph};
+use graph_fill::paths::fill_paths;
+use graph_fill_front::edges::fill_edges;
+use graph_fill_front::labels::fill_labels;
 use graph_rules::rooms::roomy;
-use wire::refusals::{GRAPH_FILE, SMALL_BUFFER};
+use wire::refusals::{File, Refusal};
 
 // Number, file and place; then the counts of an accepted file: vertices, letters of all labels, edges, paths.
 #[repr(C)]
@@ -25,13 +27,13 @@ pub struct GraphAnswer {
 }
 
 // A refusal: its other numbers are 0.
-fn refusal(number: u32, file: u32, place: u32) -> GraphAnswer
-    ensures { result ≡ answer_of (refused number file place) }
+fn refusal(number: Refusal, file: u32, place: u32) -> GraphAnswer
+    ensures { result ≡ answer_of (refused (code number) file place) }
 {
     GraphAnswer {
-        number: number,
-        file: file,
-        place: place,
+        number: u32::from(number),
+        file,
+        place,
         vertices: 0,
         letters: 0,
         edges: 0,
@@ -75,15 +77,14 @@ pub fn read_graph(
         paths.len(),
         counts.len(),
     ) {
-        return refusal(SMALL_BUFFER, 0, 0);
+        return refusal(Refusal::SmallBuffer, 0, 0);
     }
-    let found = graph_check::check_graph(file);
-    match found {
-        Checked::Fault(number, place) => refusal(number, GRAPH_FILE, place as u32),
-        Checked::Accepted(s) => {
-            labels::fill_labels(file, s.labels, s.n as usize, letters, lengths);
-            edges::fill_edges(file, s.edges, s.m as usize, edges);
-            paths::fill_paths(file, s.paths, s.k as usize, paths, counts);
+    match check_graph(file) {
+        Err(fault) => refusal(fault.refusal, u32::from(File::Graph), fault.place as u32),
+        Ok(s) => {
+            fill_labels(file, s.labels, s.n as usize, letters, lengths);
+            fill_edges(file, s.edges, s.m as usize, edges);
+            fill_paths(file, s.paths, s.k as usize, paths, counts);
             acceptance(s)
         }
     }

@@ -1,2 +1,3 @@
--- The rule of a path's vertex alone, beside the rules of the graph file.
+-- The rule of a path's vertex alone, beside the rules of the graph file; an edge of the code.
 pub mod Rise
+pub mod Edges

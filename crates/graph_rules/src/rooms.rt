@@ -8,17 +8,9 @@ use wire::sizes::{FULL_COUNTS, FULL_EDGES, FULL_LENGTHS, FULL_LETTERS, FULL_PATH
 pub fn roomy(letters: usize, lengths: usize, edges: usize, paths: usize, counts: usize) -> bool
     ensures { result ≡ room_for letters lengths edges paths counts }
 {
-    if letters < FULL_LETTERS {
-        return false;
-    }
-    if lengths < FULL_LENGTHS {
-        return false;
-    }
-    if edges < FULL_EDGES {
-        return false;
-    }
-    if paths < FULL_PATHS {
-        return false;
-    }
-    FULL_COUNTS <= counts
+    FULL_LETTERS <= letters
+        && FULL_LENGTHS <= lengths
+        && FULL_EDGES <= edges
+        && FULL_PATHS <= paths
+        && FULL_COUNTS <= counts
 }

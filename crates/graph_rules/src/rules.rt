@@ -1,45 +1,53 @@
-// The rules of the graph file, each as the refusal number that it gives, 0 for none. The reader and the writer go by these alone.
+// The rules of the graph file, each as the refusal that it gives, if any. The reader and the writer go by these alone.
 ghost use Rattle.std.specs.Prelude.{◌≡◌};
+ghost use Rattle.wire.specs.Found.{told};
 ghost use Rattle.graph.specs.Rules.{range_fault, length_fault, letter_fault, is_vertex, edge_below, edge_fault};
 ghost use Rattle.graph_rules.specs.Rise.{rise_fault};
+ghost use Rattle.graph_rules.specs.Edges.{edge_of};
 
-use wire::refusals::{NO_VERTEX, NOT_LETTER, NOT_RISING, OUT_OF_RANGE};
+use wire::refusals::Refusal;
 use wire::sizes::MOST_LETTERS;
 
+// An edge, from a vertex to a vertex.
+#[derive(Clone, Copy, PartialEq, Eq, PartialOrd, Ord)]
+pub struct Edge {
+    pub from: u32,
+    pub to: u32,
+}
+
+// Below every edge.
+pub const NO_EDGE: Edge = Edge { from: 0, to: 0 };
+
 // A count or a length is low to high.
-pub fn range_fault(low: u32, high: u32, x: u32) -> u32
-    ensures { result ≡ range_fault low high x }
+pub fn range_fault(low: u32, high: u32, x: u32) -> Result<(), Refusal>
+    ensures { told result ≡ range_fault low high x }
 {
-    if x < low {
-        return OUT_OF_RANGE;
+    if x < low || high < x {
+        Err(Refusal::OutOfRange)
+    } else {
+        Ok(())
     }
-    if high < x {
-        return OUT_OF_RANGE;
-    }
-    0
 }
 
 // A label's length, after labels of `sum` letters together.
-pub fn length_fault(sum: u32, len: u32) -> u32
-    ensures { result ≡ length_fault sum len }
+pub fn length_fault(sum: u32, len: u32) -> Result<(), Refusal>
+    ensures { told result ≡ length_fault sum len }
 {
-    if len < 1 {
-        return OUT_OF_RANGE;
+    if len < 1 || (MOST_LETTERS as u64) < sum as u64 + len as u64 {
+        Err(Refusal::OutOfRange)
+    } else {
+        Ok(())
     }
-    if (MOST_LETTERS as u64) < sum as u64 + len as u64 {
-        return OUT_OF_RANGE;
-    }
-    0
 }
 
 // A label's byte is a letter.
-pub fn letter_fault(byte: u8) -> u32
-    ensures { result ≡ letter_fault byte }
+pub fn letter_fault(byte: u8) -> Result<(), Refusal>
+    ensures { told result ≡ letter_fault byte }
 {
     if wire_letters::is_letter(byte) {
-        0
+        Ok(())
     } else {
-        NOT_LETTER
+        Err(Refusal::NotLetter)
     }
 }
 
@@ -47,48 +55,41 @@ pub fn letter_fault(byte: u8) -> u32
 pub fn is_vertex(n: u32, v: u32) -> bool
     ensures { result ≡ is_vertex n v }
 {
-    if v < 1 {
-        return false;
-    }
-    v <= n
+    1 <= v && v <= n
 }
 
-// Whether the edge `last` is below the edge from - to.
-pub fn edge_below(lastfrom: u32, lastto: u32, from: u32, to: u32) -> bool
-    ensures { result ≡ edge_below (record { from = lastfrom; to = lastto }) (record { from = from; to = to }) }
+// Whether the edge `last` is below an edge.
+pub fn edge_below(last: Edge, edge: Edge) -> bool
+    ensures { result ≡ edge_below (edge_of last) (edge_of edge) }
 {
-    if lastfrom < from {
-        return true;
-    }
-    if lastfrom == from {
-        return lastto < to;
-    }
-    false
+    last < edge
 }
 
-// An edge, after the edge `last` (0, 0 before the first): 6, 7.
-pub fn edge_fault(n: u32, lastfrom: u32, lastto: u32, from: u32, to: u32) -> u32
-    ensures { result ≡ edge_fault n (record { from = lastfrom; to = lastto }) (record { from = from; to = to }) }
+// An edge, after the edge `last` (`NO_EDGE` before the first): 6, 7.
+#[tactic(auto, unfolding(graph::specs::Rules::edge_fault))]
+pub fn edge_fault(n: u32, last: Edge, edge: Edge) -> Result<(), Refusal>
+    ensures { told result ≡ edge_fault n (edge_of last) (edge_of edge) }
 {
-    if !is_vertex(n, from) {
-        return NO_VERTEX;
+    if !is_vertex(n, edge.from) || !is_vertex(n, edge.to) {
+        return Err(Refusal::NoVertex);
     }
-    if !is_vertex(n, to) {
-        return NO_VERTEX;
-    }
-    if edge_below(lastfrom, lastto, from, to) {
-        0
+    if edge_below(last, edge) {
+        Ok(())
     } else {
-        NOT_RISING
+        Err(Refusal::NotRising)
     }
 }
 
 // A path's vertex v, after the vertex `last` (0 before the first): 6, 7.
-pub fn rise_fault(n: u32, last: u32, v: u32) -> u32
-    ensures { result ≡ rise_fault n last v }
+pub fn rise_fault(n: u32, last: u32, v: u32) -> Result<(), Refusal>
+    ensures { told result ≡ rise_fault n last v }
 {
     if !is_vertex(n, v) {
-        return NO_VERTEX;
+        return Err(Refusal::NoVertex);
     }
-    if last < v { 0 } else { NOT_RISING }
+    if last < v {
+        Ok(())
+    } else {
+        Err(Refusal::NotRising)
+    }
 }

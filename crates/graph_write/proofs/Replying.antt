@@ -3,37 +3,21 @@
 use Prim.Native.Nat.{ℕ, ◌≤◌, ◌<◌}
 use mathlib.Core.Path.{◌≡◌, refl, ◌∙◌}
 use mathlib.Core.List.{List}
-use mathlib.Core.Bool.{Bool, true, false, ◌&&◌}
-use native.Mathlib.Omega.{arith}
+use mathlib.Core.Bool.{Bool, true, false}
 use lib.ListN.{length}
-use lib.Dec.{leb}
-use borrow.Author.Tests.{le-leb, lt-leb, leb-true}
+use borrow.Author.Tests.{le-leb, lt-leb}
 use Rattle.wire.specs.Found.{accepted, refused, refusal_number}
 use Rattle.wire.specs.Lent.{front}
 use Rattle.wire.specs.Refusals.{out_of_range, small_buffer, short_output, graph_file}
-use Rattle.wire.specs.Sizes.{most_file_bytes, full_letters, full_lengths, full_edges, full_paths}
+use Rattle.wire.specs.Sizes.{most_file_bytes}
 use Rattle.graph.specs.Content.{Graph}
 use Rattle.graph.specs.Encode.{encode_graph}
 use Rattle.graph.specs.Entries.{Given, room_for, roomy, graph_given, size_reply, write_reply, graph_in}
 use Rattle.graph_write.specs.declared.WrittenAnswer.{WrittenAnswer}
-use Rattle.graph_content.specs.Used.{Full}
 use Rattle.graph_write.specs.Answer.{refused_with, Written}
 use Rattle.graph.proofs.ContentReading.{given-good, given-fault}
 
 -- ---- the buffers
-
--- each test that holds says its bound
-full_holds : (a b c d e : ℕ) → room_for a b c d e ≡ true → Full a b c d e
-full_holds a b c d e h =
-    let p = both (leb full_letters a) _ h in
-    let q = both (leb full_lengths b) _ p.1 in
-    let r = both (leb full_edges c) _ q.1 in
-    let s = both (leb full_paths d) _ r.1 in
-    (leb-true _ _ p.0, leb-true _ _ q.0, leb-true _ _ r.0, leb-true _ _ s.0, leb-true _ _ s.1)
-  where
-    both : (x y : Bool) → ◌&&◌ x y ≡ true → (x ≡ true) × (y ≡ true)
-    both true y h = (refl, h)
-    both false y h = absurd (let z : ◌≡◌ {A = ℕ} 0 1 = cc in omega arith)
 
 abbrev sizes : Given → Bool
 sizes c =
@@ -43,10 +27,6 @@ sizes c =
 roomy-sizes : (c : Given) → roomy c.buffers ≡ sizes c
 unfolding roomy
 roomy-sizes c = refl
-
-pub sizes_full : (c : Given) → sizes c ≡ true
-    → Full (length c.buffers.letters) (length c.buffers.lengths) (length c.buffers.edges) (length c.buffers.paths) (length c.buffers.counts)
-sizes_full c h = full_holds _ _ _ _ _ h
 
 -- ---- the replies
 

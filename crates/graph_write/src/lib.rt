@@ -2,16 +2,18 @@
 #![tactic(auto)]
 
 ghost use Rattle.std.specs.Prelude.{◌≡◌, length};
+ghost use Rattle.wire.specs.Refusals.{code, file_number};
 ghost use Rattle.graph_content.specs.Used.{given_of};
 ghost use Rattle.graph_write.specs.Answer.{refused_with, Written};
 
+use graph_content::given::Content;
 use graph_faults::content_fault;
 use graph_file_bytes::{graph_size, put_graph};
 use graph_rules::rooms::roomy;
-use wire::refusals::{GRAPH_FILE, OUT_OF_RANGE, SHORT_OUTPUT, SMALL_BUFFER};
+use wire::refusals::{File, Refusal};
 use wire::sizes::MOST_FILE_BYTES;
 
-// The refusal's number, file and place, 0 in all three for an acceptance, and how many bytes were written.
+// The refusal's number, file and place, 0 in all three for an acceptance, and how many bytes were written. (C has a struct for each writer.)
 #[repr(C)]
 #[derive(Clone, Copy)]
 pub struct WrittenAnswer {
@@ -21,14 +23,26 @@ pub struct WrittenAnswer {
     pub bytes: u32,
 }
 
-// A refusal's answer.
-fn refusal(number: u32, file: u32, place: u32) -> WrittenAnswer
-    ensures { result ≡ refused_with number file place }
+// The answer to a refusal that is of no file.
+fn refusal(refusal: Refusal) -> WrittenAnswer
+    ensures { result ≡ refused_with (code refusal) 0 0 }
 {
     WrittenAnswer {
-        number: number,
-        file: file,
-        place: place,
+        number: u32::from(refusal),
+        file: 0,
+        place: 0,
+        bytes: 0,
+    }
+}
+
+// The answer to a refusal at a place of a file.
+fn fault(file: File, refusal: Refusal, place: u32) -> WrittenAnswer
+    ensures { result ≡ refused_with (code refusal) (file_number file) place }
+{
+    WrittenAnswer {
+        number: u32::from(refusal),
+        file: u32::from(file),
+        place,
         bytes: 0,
     }
 }
@@ -56,20 +70,29 @@ pub fn write_graph(
         paths.len(),
         counts.len(),
     ) {
-        return refusal(SMALL_BUFFER, 0, 0);
+        return refusal(Refusal::SmallBuffer);
     }
-    let fault = content_fault(n, m, k, letters, lengths, edges, paths, counts);
-    if fault != 0 {
-        return refusal(fault, GRAPH_FILE, 0);
+    let content = Content {
+        n,
+        m,
+        k,
+        letters,
+        lengths,
+        edges,
+        paths,
+        counts,
+    };
+    if let Err(refusal) = content_fault(&content) {
+        return fault(File::Graph, refusal, 0);
     }
-    let bytes = graph_size(n, m, k, letters, lengths, edges, paths, counts);
+    let bytes = graph_size(&content);
     if MOST_FILE_BYTES < bytes {
-        return refusal(OUT_OF_RANGE, GRAPH_FILE, MOST_FILE_BYTES as u32);
+        return fault(File::Graph, Refusal::OutOfRange, MOST_FILE_BYTES as u32);
     }
     if out.len() < bytes {
-        return refusal(SHORT_OUTPUT, 0, 0);
+        return refusal(Refusal::ShortOutput);
     }
-    let written = put_graph(n, m, k, letters, lengths, edges, paths, counts, out);
+    let written = put_graph(&content, out);
     WrittenAnswer {
         number: 0,
         file: 0,

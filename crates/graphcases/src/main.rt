@@ -3,35 +3,36 @@
 // the files, each ended by `|`. What each file is stands above the text, in the same order.
 #![tactic(auto)]
 
-use graph_check::{Checked, check_graph};
+use graph_check::check_graph;
 use std::io;
 use std::io::Write;
 use texts::{part, parts, say_filled};
 
 // Writes what the check says of a file.
 fn show(to: &mut impl Write, file: &[u8]) -> io::Result<()> {
-    let found = check_graph(file);
-    match found {
-        Checked::Accepted(s) => {
+    match check_graph(file) {
+        Ok(s) => say_filled(
+            to,
+            b"accepted n # letters # labels # m # edges # K # paths #\n",
+            &[
+                s.n as u64,
+                s.letters as u64,
+                s.labels as u64,
+                s.m as u64,
+                s.edges as u64,
+                s.k as u64,
+                s.paths as u64,
+            ],
+        ),
+        Err(fault) => {
+            let number = u32::from(fault.refusal);
             say_filled(
                 to,
-                b"accepted n # letters # labels # m # edges # K # paths #\n",
-                &[
-                    s.n as u64,
-                    s.letters as u64,
-                    s.labels as u64,
-                    s.m as u64,
-                    s.edges as u64,
-                    s.k as u64,
-                    s.paths as u64,
-                ],
-            )?;
-        }
-        Checked::Fault(number, place) => {
-            say_filled(to, b"refused # place #\n", &[number as u64, place as u64])?;
+                b"refused # place #\n",
+                &[number as u64, fault.place as u64],
+            )
         }
     }
-    Ok(())
 }
 
 // Writes the heading of a text, and what the check says of each of its files.

@@ -9,16 +9,16 @@
 
 ghost use Rattle.std.specs.Prelude.{◌≤◌, ◌<◌};
 
-use changes::{change_letters, change_numbers, changed};
+use changes::{change_entries, changed};
 use graph_write::{WrittenAnswer, write_graph};
 use std::io;
 use std::io::Write;
-use telling::{BYTE_BEFORE, count_bytes, say, say_bytes};
+use telling::{BYTE_BEFORE, say, say_bytes};
 use texts::{part, parts, say_filled};
 
 // Whether every byte is as it was.
 fn untouched(bytes: &[u8]) -> bool {
-    count_bytes(bytes, BYTE_BEFORE) == bytes.len() as u64
+    bytes.iter().all(|b| *b == BYTE_BEFORE)
 }
 
 // Writes the answer.
@@ -55,8 +55,8 @@ fn tell(to: &mut impl Write, name: &[u8], answer: WrittenAnswer, out: &[u8]) -> 
 
 // Sets a place, where it is there.
 fn set_number(numbers: &mut [u32], at: usize, x: u32) {
-    if at < numbers.len() {
-        numbers[at] = x;
+    if let Some(place) = numbers.get_mut(at) {
+        *place = x;
     }
 }
 
@@ -66,18 +66,6 @@ fn large_vertices(longer: u32) -> u32
     ensures { result ≤ 1024 }
 {
     if 0 < longer { 1024 } else { 0 }
-}
-
-fn length_of(v: u32, longer: u32) -> u32 {
-    if v < longer { 30 } else { 29 }
-}
-
-fn set_lengths(lengths: &mut [u32], vertices: u32, longer: u32)
-    requires { vertices ≤ 1024 }
-{
-    for v in 0..vertices {
-        set_number(lengths, v as usize, length_of(v, longer));
-    }
 }
 
 // The edge from each vertex v to the next.
@@ -120,39 +108,39 @@ fn letters_before(longer: u32) -> [u8; 32768] {
 // The content of a case: zeros or the large graph, with the changes of `base` and of the case.
 fn letters_of(base: &[u8], changes: &[u8], longer: u32) -> [u8; 32768] {
     let mut letters = letters_before(longer);
-    change_letters(base, b's', &mut letters);
-    change_letters(changes, b's', &mut letters);
+    change_entries(base, b's', &mut letters);
+    change_entries(changes, b's', &mut letters);
     letters
 }
 
 fn lengths_of(base: &[u8], changes: &[u8], longer: u32) -> [u32; 1024] {
-    let mut numbers = [0u32; 1024];
-    set_lengths(&mut numbers, large_vertices(longer), longer);
-    change_numbers(base, b'L', &mut numbers);
-    change_numbers(changes, b'L', &mut numbers);
+    let mut numbers = if 0 < longer { [29; 1024] } else { [0; 1024] };
+    numbers[..(longer as usize).min(1024)].fill(30);
+    change_entries(base, b'L', &mut numbers);
+    change_entries(changes, b'L', &mut numbers);
     numbers
 }
 
 fn edges_of(base: &[u8], changes: &[u8], longer: u32) -> [u32; 8192] {
     let mut numbers = [0u32; 8192];
     set_edges(&mut numbers, large_vertices(longer));
-    change_numbers(base, b'E', &mut numbers);
-    change_numbers(changes, b'E', &mut numbers);
+    change_entries(base, b'E', &mut numbers);
+    change_entries(changes, b'E', &mut numbers);
     numbers
 }
 
 fn paths_of(base: &[u8], changes: &[u8], longer: u32) -> [u32; 16384] {
     let mut numbers = [0u32; 16384];
     set_paths(&mut numbers, large_vertices(longer));
-    change_numbers(base, b'P', &mut numbers);
-    change_numbers(changes, b'P', &mut numbers);
+    change_entries(base, b'P', &mut numbers);
+    change_entries(changes, b'P', &mut numbers);
     numbers
 }
 
 fn counts_of(base: &[u8], changes: &[u8]) -> [u32; 16] {
     let mut numbers = [0u32; 16];
-    change_numbers(base, b'C', &mut numbers);
-    change_numbers(changes, b'C', &mut numbers);
+    change_entries(base, b'C', &mut numbers);
+    change_entries(changes, b'C', &mut numbers);
     numbers
 }
 
@@ -165,8 +153,7 @@ fn number_of(base: &[u8], changes: &[u8], list: u8) -> u32 {
 fn size_of(base: &[u8], changes: &[u8], list: u8, most: usize) -> usize
     ensures { result ≤ most }
 {
-    let size = number_of(base, changes, list) as usize;
-    if size < most { size } else { most }
+    (number_of(base, changes, list) as usize).min(most)
 }
 
 // Runs a case with its content and output.

@@ -3,7 +3,6 @@
 #![tactic(auto)]
 
 use listing::{listing_room, output, printed};
-use loaded::Loaded;
 use std::io;
 use std::io::Write;
 
@@ -12,17 +11,21 @@ fn say(to: &mut impl Write, text: &[u8]) -> io::Result<()> {
     to.write_all(text)
 }
 
-// A case: its name, and what is printed of two files, each with what loading it gave.
+// A case: its name, and what is printed of two files, each with the room that it was loaded into and how many bytes of it are the file's, if it is there.
 fn loaded_case(
     to: &mut impl Write,
     name: &[u8],
-    g: Loaded,
+    g: Option<usize>,
     graph: &[u8],
-    a: Loaded,
+    a: Option<usize>,
     anchors: &[u8],
 ) -> io::Result<()> {
     let mut out = listing_room();
-    let n = output(g, graph, a, anchors, &mut out);
+    let n = output(
+        g.and_then(|n| graph.get(..n)),
+        a.and_then(|n| anchors.get(..n)),
+        &mut out,
+    );
     say(to, name)?;
     say(to, b"\n")?;
     say(to, printed(&out, n))
@@ -30,14 +33,7 @@ fn loaded_case(
 
 // A case of two files that are there.
 fn case(to: &mut impl Write, name: &[u8], graph: &[u8], file: &[u8]) -> io::Result<()> {
-    loaded_case(
-        to,
-        name,
-        Loaded::Bytes(graph.len()),
-        graph,
-        Loaded::Bytes(file.len()),
-        file,
-    )
+    loaded_case(to, name, Some(graph.len()), graph, Some(file.len()), file)
 }
 
 // Graph G1 with an anchor file.
@@ -115,44 +111,23 @@ fn long_case(to: &mut impl Write) -> io::Result<()> {
 fn missing_cases(to: &mut impl Write) -> io::Result<()> {
     let good = b"\x01\x01\x01A\x00\x01\x01\x01";
     let anchors = b"\x02\x01A\x00";
-    loaded_case(
-        to,
-        b"both files missing",
-        Loaded::Missing,
-        good,
-        Loaded::Missing,
-        anchors,
-    )?;
-    loaded_case(
-        to,
-        b"no graph file",
-        Loaded::Missing,
-        good,
-        Loaded::Bytes(4),
-        anchors,
-    )?;
-    loaded_case(
-        to,
-        b"no anchor file",
-        Loaded::Bytes(8),
-        good,
-        Loaded::Missing,
-        anchors,
-    )?;
+    loaded_case(to, b"both files missing", None, good, None, anchors)?;
+    loaded_case(to, b"no graph file", None, good, Some(4), anchors)?;
+    loaded_case(to, b"no anchor file", Some(8), good, None, anchors)?;
     loaded_case(
         to,
         b"no anchor file and a graph file at fault",
-        Loaded::Bytes(0),
+        Some(0),
         good,
-        Loaded::Missing,
+        None,
         anchors,
     )?;
     loaded_case(
         to,
         b"no graph file and an anchor file at fault",
-        Loaded::Missing,
+        None,
         good,
-        Loaded::Bytes(0),
+        Some(0),
         anchors,
     )
 }
@@ -164,17 +139,17 @@ fn room_cases(to: &mut impl Write) -> io::Result<()> {
     loaded_case(
         to,
         b"the front of each room",
-        Loaded::Bytes(8),
+        Some(8),
         graph,
-        Loaded::Bytes(4),
+        Some(4),
         anchors,
     )?;
     loaded_case(
         to,
         b"the whole room of the anchors",
-        Loaded::Bytes(8),
+        Some(8),
         graph,
-        Loaded::Bytes(5),
+        Some(5),
         anchors,
     )
 }

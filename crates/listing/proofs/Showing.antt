@@ -30,9 +30,10 @@ use Rattle.placing.proofs.Reading.{laid-anchor}
 use Rattle.placing.proofs.Answering.{sweep-one}
 use Rattle.listing_lines.specs.Lines.{refused_line, no_file_line, Printed}
 use Rattle.listing_result.specs.Showing.{listing_of, Shown, SomeShown}
-use Rattle.loaded.specs.Files.{File, missing, read, file_in, bytes_in, missing_of}
-use Rattle.loaded.specs.declared.Loaded.{Loaded}
-use Rattle.loaded.specs.declared.Loaded.TheVariants.{Bytes, Missing}
+use Rattle.std.specs.Prelude.{Some}
+use Rattle.loaded.specs.Files.{File, missing, read, missing_of, number_of}
+use Rattle.loaded.specs.declared.Missing.{Missing}
+use Rattle.loaded.specs.declared.Missing.TheVariants.{Graph as no_graph, Anchors as no_anchors}
 use Rattle.listing.specs.Printing.{Outcome, Listed, Output}
 
 -- ---- the chain returned
@@ -175,22 +176,12 @@ module _ (graph file : List ℕ) (b after : ChainBuffers) (r : ChainAnswer) (T :
 
 module _ (old out : List ℕ) (n : ℕ) where
   -- one is missing, and it is named
-  pub missing-printed : (g a : File) (k : ℕ) → k ≡ missing_of g a → (k ≡ 0 → ⊥) → Printed (no_file_line k) old out n → Output g a old out n
-  missing-printed missing a k e z p = subst (λ (x : ℕ). Printed (no_file_line x) old out n) e p
-  missing-printed (read g) missing k e z p = subst (λ (x : ℕ). Printed (no_file_line x) old out n) e p
-  missing-printed (read g) (read a) k e z p = absurd (z e)
-
-  by_bytes : (g a : Loaded) (graph anchors : List ℕ) → missing_of (file_in g graph) (file_in a anchors) ≡ 0
-      → Listed (bytes_in g graph) (bytes_in a anchors) old out n → Output (file_in g graph) (file_in a anchors) old out n
-  by_bytes (Bytes k) (Bytes m) graph anchors e h = h
-  by_bytes (Bytes k) Missing graph anchors e h = absurd (omega (arith, e))
-  by_bytes Missing a graph anchors e h = absurd (omega (arith, e))
-
-  -- none is, and the listing of their bytes x and y is printed
-  pub both-printed : (g a : Loaded) (graph anchors x y : List ℕ) (k : ℕ) → k ≡ missing_of (file_in g graph) (file_in a anchors) → k ≡ 0
-      → x ≡ bytes_in g graph → y ≡ bytes_in a anchors → Listed x y old out n → Output (file_in g graph) (file_in a anchors) old out n
-  both-printed g a graph anchors x y k e z p q h =
-      by_bytes g a graph anchors (sym e ∙ z) (subst (λ (t : List ℕ). Listed (bytes_in g graph) t old out n) q (subst (λ (t : List ℕ). Listed t y old out n) p h))
+  pub missing-printed : (g a : File) (file : Missing) → missing_of g a ≡ Some file → Printed (no_file_line (number_of file)) old out n → Output g a old out n
+  missing-printed missing a no_graph e p = p
+  missing-printed missing a no_anchors e p = absurd (cc)
+  missing-printed (read g) missing no_anchors e p = p
+  missing-printed (read g) missing no_graph e p = absurd (cc)
+  missing-printed (read g) (read a) file e p = absurd (cc)
 
 -- ---- one answer
 

@@ -1,17 +1,16 @@
--- What loading a file answers.
-use Rattle.std.specs.Prelude.{ℕ, ◌+◌, ◌≤◌, ◌<◌}
-use Rattle.listing_files.specs.declared.files.More.{More}
-use Rattle.listing_files.specs.declared.files.More.TheVariants.{Put, End, Failed}
-use Rattle.loaded.specs.declared.Loaded.{Loaded}
-use Rattle.loaded.specs.declared.Loaded.TheVariants.{Bytes, Missing}
+-- What is written of two files.
+use Rattle.std.specs.Prelude.{ℕ, List, take, Option}
+use Rattle.std.specs.Io.KnownBytes.{Appends}
+use Rattle.loaded.specs.Files.{File}
+use Rattle.listing.specs.Printing.{Output}
 
--- one read, from place `from` of a buffer of n bytes, brought bytes that fit
-abbrev pub Within : More → ℕ → ℕ → Type 0
-Within (Put k) from n = (0 < k) × (from + k ≤ n)
-Within End from n = Unit {0}
-Within Failed from n = Unit {0}
-
--- a loaded file fits its buffer of n bytes
-abbrev pub LoadedIn : Loaded → ℕ → Type 0
-LoadedIn (Bytes k) n = k ≤ n
-LoadedIn Missing n = Unit {0}
+-- a writer that held `old` holds `new`: with what is printed of two files after it. What loading each of the files gave is the system's word.
+pub record Wrote (old new : Option (List ℕ)) : Type 0 where
+  pub graph : File
+  pub anchors : File
+  -- the output before and after it was laid there, and how many bytes that took
+  pub before : List ℕ
+  pub after : List ℕ
+  pub count : ℕ
+  pub printed : Output graph anchors before after count
+  pub written : Appends old new (take count after)

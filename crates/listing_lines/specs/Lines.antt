@@ -1,7 +1,7 @@
 -- The listing's lines of words and numbers, byte by byte. Document 01, chapter "Listing".
-use Rattle.std.specs.Prelude.{ℕ, ◌≡◌, List, [], ◌∷◌, ◌++◌, length}
+use Rattle.std.specs.Prelude.{ℕ, ◌≡◌, List, [], ◌∷◌, length}
 use Rattle.wire.specs.Lent.{front}
-use Rattle.decimal_text.specs.Words.{line_end, said, told}
+use Rattle.decimal_text.specs.Words.{told}
 
 -- ---- words
 
@@ -33,15 +33,15 @@ no_file_word = 110 ∷ 111 ∷ 32 ∷ 102 ∷ 105 ∷ 108 ∷ 101 ∷ 32 ∷ []
 
 -- "Its first line gives N, the greatest score and the rounds": `anchors 3 score 6 rounds 2`
 abbrev pub found_line : ℕ → ℕ → ℕ → List ℕ
-found_line n score rounds = told anchors_word n score_word score rounds_word rounds
+found_line n score rounds = told ((anchors_word, n) ∷ (score_word, score) ∷ (rounds_word, rounds) ∷ [])
 
 -- "A refusal prints `refused NUMBER file FILE place PLACE`"
 abbrev pub refused_line : ℕ → ℕ → ℕ → List ℕ
-refused_line k file place = told refused_word k file_word file place_word place
+refused_line k file place = told ((refused_word, k) ∷ (file_word, file) ∷ (place_word, place) ∷ [])
 
 -- "a file that cannot be opened or read, `no file 1` or `no file 2`"
 abbrev pub no_file_line : ℕ → List ℕ
-no_file_line file = said no_file_word file ++ line_end
+no_file_line file = told ((no_file_word, file) ∷ [])
 
 -- ---- what is laid
 

@@ -6,7 +6,7 @@ ghost use Rattle.std.specs.Prelude.{◌≡◌, ◌≤◌, length};
 ghost use Rattle.wire.specs.Lent.{front};
 ghost use Rattle.listing_lines.specs.Lines.{found_line, refused_line, no_file_line, Printed, line_room};
 
-use decimal_text::{put_said, put_told};
+use decimal_text::put_told;
 
 // The first line: N, the greatest score and the rounds.
 pub fn put_found(out: &mut [u8], anchors: u32, score: u32, rounds: u32) -> usize
@@ -15,12 +15,11 @@ pub fn put_found(out: &mut [u8], anchors: u32, score: u32, rounds: u32) -> usize
 {
     put_told(
         out,
-        b"anchors ",
-        anchors,
-        b" score ",
-        score,
-        b" rounds ",
-        rounds,
+        &[
+            (b"anchors ", anchors),
+            (b" score ", score),
+            (b" rounds ", rounds),
+        ],
     )
 }
 
@@ -29,7 +28,14 @@ pub fn put_refused(out: &mut [u8], number: u32, file: u32, place: u32) -> usize
     requires { line_room ≤ length out.old }
     ensures { (result ≡ length (refused_line number file place)) × (out.new ≡ front (refused_line number file place) out.old) }
 {
-    put_told(out, b"refused ", number, b" file ", file, b" place ", place)
+    put_told(
+        out,
+        &[
+            (b"refused ", number),
+            (b" file ", file),
+            (b" place ", place),
+        ],
+    )
 }
 
 // The line of a file that is not there.
@@ -37,7 +43,5 @@ pub fn put_no_file(out: &mut [u8], file: u32) -> usize
     requires { line_room ≤ length out.old }
     ensures { Printed (no_file_line file) out.old out.new result }
 {
-    let at = put_said(out, b"no file ", file);
-    out[at] = b'\n';
-    at + 1
+    put_told(out, &[(b"no file ", file)])
 }

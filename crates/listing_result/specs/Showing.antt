@@ -8,7 +8,8 @@ use Rattle.anchors.specs.AnchorEntries.{anchor_in}
 use Rattle.chain.specs.Steps.{anchor_at}
 use Rattle.chain.specs.ChainEntries.{Result}
 use Rattle.listing_lines.specs.Lines.{found_line}
-use Rattle.listing_text.specs.Lines.{each, anchor_line}
+use Rattle.decimal_text.specs.Words.{each}
+use Rattle.listing_text.specs.Lines.{anchor_line}
 
 -- the lines of the anchors with the numbers js; S holds the score of anchor j at place j − 1
 abbrev pub anchor_lines : List Anchor → List ℕ → List ℕ → List ℕ

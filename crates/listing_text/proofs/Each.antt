@@ -1,29 +1,11 @@
--- The bytes of each number, one after the other: what is left of them at a place, how long they are, and what they depend on.
+-- The bytes of each number, one after the other: how long they are, and what they depend on.
 -- Assumes nothing.
 use Prim.Native.Nat.{ℕ, suc, ◌+◌, ◌*◌, ◌≤◌, ◌<◌}
-use mathlib.Core.Path.{◌≡◌, refl, sym, ap, ◌∙◌}
+use mathlib.Core.Path.{◌≡◌, refl, ap, ◌∙◌}
 use mathlib.Core.List.{List, [], ◌∷◌, ◌++◌}
 use native.Mathlib.Omega.{arith}
-use native.Mathlib.Numerals.{add-one}
-use lib.ListN.{length, get_or, drop, length-append, drop_of_length-le}
-use lib.Seq.{drop-cons}
-use Rattle.listing_text.specs.Lines.{each}
-
-cons : (f : ℕ → List ℕ) (n : ℕ) (ns : List ℕ) → each f (n ∷ ns) ≡ f n ++ each f ns
-unfolding each
-cons f n ns = refl
-
--- from place i on: the bytes of the number there, and those after it
-pub each_next : (f : ℕ → List ℕ) (ns : List ℕ) (i : ℕ) → i < length ns → each f (drop i ns) ≡ f (get_or ns i 0) ++ each f (drop (i + 1) ns)
-each_next f ns i h =
-    ap (each f) (drop-cons ns i 0 h)
-    ∙ cons f (get_or ns i 0) (drop (suc i) ns)
-    ∙ ap (λ (k : ℕ). f (get_or ns i 0) ++ each f (drop k ns)) (sym (add-one i))
-
--- past the end: none
-pub each_end : (f : ℕ → List ℕ) (ns : List ℕ) (i : ℕ) → length ns ≤ i → each f (drop i ns) ≡ []
-unfolding each
-each_end f ns i h = ap (each f) (drop_of_length-le ns h)
+use lib.ListN.{length, get_or, length-append}
+use Rattle.decimal_text.specs.Words.{each}
 
 -- at most m bytes for each
 pub each_most : (f : ℕ → List ℕ) (m : ℕ) (ns : List ℕ) → ((i : ℕ) → i < length ns → length (f (get_or ns i 0)) ≤ m) → length (each f ns) ≤ m * length ns

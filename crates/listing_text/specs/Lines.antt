@@ -1,16 +1,11 @@
 -- The listing's lines of anchors, byte by byte. Document 01, chapter "Listing".
-use Rattle.std.specs.Prelude.{ℕ, ◌-◌, ◌<◌, List, [], ◌∷◌, ◌++◌, length, get_or}
+use Rattle.std.specs.Prelude.{ℕ, ◌-◌, ◌<◌, List, ◌∷◌, ◌++◌, length, get_or}
 use Rattle.rounds.specs.Table.{entry}
 use Rattle.anchors.specs.Anchors.{Anchor}
 use Rattle.anchors.specs.AnchorEntries.{anchor_in}
 use Rattle.decimal_text.specs.Decimal.{decimal}
-use Rattle.decimal_text.specs.Words.{space, line_end}
+use Rattle.decimal_text.specs.Words.{space, line_end, each}
 use Rattle.anchor_row.specs.Row.{row, HeldAt}
-
--- the bytes f of each number, one after the other
-unfoldable pub each : (ℕ → List ℕ) → List ℕ → List ℕ
-each f [] = []
-each f (n ∷ rest) = f n ++ each f rest
 
 -- numbers, each after a space
 abbrev pub spaced : List ℕ → List ℕ

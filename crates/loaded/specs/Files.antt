@@ -1,26 +1,26 @@
 -- What loading a file gave, as the file that was read.
-use Rattle.std.specs.Prelude.{List, ℕ, take}
-use Rattle.loaded.specs.declared.Loaded.{Loaded}
-use Rattle.loaded.specs.declared.Loaded.TheVariants.{Bytes, Missing}
+use Rattle.std.specs.Prelude.{List, ℕ, Option, Some, None}
+use Rattle.loaded.specs.declared.Missing.{Missing}
+use Rattle.loaded.specs.declared.Missing.TheVariants.{Graph, Anchors}
 
 -- a file as it was read: it "cannot be opened or read", or its bytes
 pub data File : Type 0 where
   missing : File
   read : List ℕ → File
 
--- the first n bytes of the room that it was loaded to, or no file
-abbrev pub file_in : Loaded → List ℕ → File
-file_in (Bytes n) room = read (take n room)
-file_in Missing room = missing
+-- what loading gave: the file's bytes, or none
+abbrev pub file_in : Option (List ℕ) → File
+file_in (Some bytes) = read bytes
+file_in None = missing
 
--- those bytes, none where there is no file
-abbrev pub bytes_in : Loaded → List ℕ → List ℕ
-bytes_in (Bytes n) room = take n room
-bytes_in Missing room = take 0 room
-
--- the number of the file that is missing, the graph file first, 0 where both were read: for the code; the rule is `Output` (listing), tied by
+-- the file that is missing, the graph file first, or none where both were read: for the code; the rule is `Output` (listing), tied by
 -- `missing-printed`
-abbrev pub missing_of : File → File → ℕ
-missing_of missing anchors = 1
-missing_of (read graph) missing = 2
-missing_of (read graph) (read anchors) = 0
+abbrev pub missing_of : File → File → Option Missing
+missing_of missing anchors = Some Graph
+missing_of (read graph) missing = Some Anchors
+missing_of (read graph) (read anchors) = None
+
+-- "`no file 1` or `no file 2`": the graph file is file 1, the anchor file 2
+abbrev pub number_of : Missing → ℕ
+number_of Graph = 1
+number_of Anchors = 2

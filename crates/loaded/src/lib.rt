@@ -1,42 +1,65 @@
-// What loading a file gave: how many bytes of a room are the file's, or that there is none; and which of two files is missing.
+// What loading the two files gave: a file's bytes, or that there is none; and which of the two is missing.
 #![tactic(auto)]
 
-ghost use Rattle.std.specs.Prelude.{◌≡◌, List, ℕ, take};
-ghost use Rattle.loaded.specs.Files.{missing_of, file_in, bytes_in};
+ghost use Rattle.std.specs.Prelude.{◌≡◌, ◌≤◌, Some, IfOk, IfErr, IfSome, length, take, option_copied};
+ghost use Rattle.loaded.specs.Files.{read, file_in, missing_of, number_of};
 
-// So many bytes, or a file that cannot be opened or read.
-#[derive(Clone, Copy)]
-pub enum Loaded {
-    Bytes(usize),
-    Missing,
+use std::io;
+use std::io::Read;
+
+// The file of the two that cannot be opened or read.
+#[derive(Clone, Copy, Debug, PartialEq, Eq)]
+pub enum Missing {
+    Graph,
+    Anchors,
 }
 
-// The first n bytes, or all of them.
-pub fn head(s: &[u8], n: usize) -> &[u8]
-    ensures { result.now ≡ take n s.now }
-{
-    if n < s.len() { &s[..n] } else { s }
-}
+// The number by which the listing names it.
+impl From<Missing> for u32 {
+    ghost from_gives = { λ file n. n ≡ number_of file };
 
-// The file's bytes, which are the first of its room.
-pub fn bytes_of(file: Loaded, room: &[u8]) -> &[u8]
-    ensures { result.now ≡ bytes_in file room.now }
-{
-    match file {
-        Loaded::Bytes(n) => head(room, n),
-        Loaded::Missing => head(room, 0),
+    fn from(file: Missing) -> u32 {
+        match file {
+            Missing::Graph => 1,
+            Missing::Anchors => 2,
+        }
     }
 }
 
-// The file that is missing, the graph file first: 1 or 2, or 0 where both were read.
-pub fn missing_file(g: Loaded, a: Loaded) -> u32
-    ensures { (graph anchors : List ℕ) → result ≡ missing_of (file_in g graph) (file_in a anchors) }
+// The bytes of both files, or the one that is missing, the graph file first.
+pub fn both_files<'a>(
+    g: Option<&'a [u8]>,
+    a: Option<&'a [u8]>,
+) -> Result<(&'a [u8], &'a [u8]), Missing>
+    ensures both { IfOk result (λ files. (file_in (option_copied g.entry) ≡ read files.0.now)
+        × (file_in (option_copied a.entry) ≡ read files.1.now)) }
+    ensures one_missing { IfErr result (λ file. missing_of (file_in (option_copied g.entry)) (file_in (option_copied a.entry)) ≡ Some file) }
 {
-    let Loaded::Bytes(n) = g else {
-        return 1;
-    };
-    let Loaded::Bytes(m) = a else {
-        return 2;
-    };
-    0
+    let graph = g.ok_or(Missing::Graph)?;
+    let anchors = a.ok_or(Missing::Anchors)?;
+    Ok((graph, anchors))
+}
+
+// What a reader gives up to its end, or as much of it as the room holds.
+pub fn read_part<'a, R: Read>(file: &mut R, room: &'a mut [u8]) -> io::Result<&'a [u8]>
+    ensures in_room { IfOk result (λ part. length part.now ≤ length room.old) }
+    ensures gave { IfOk result (λ part. IfSome (R.remaining file.old) (λ xs. part.now ≡ take (length room.old) xs)) }
+{
+    let mut n = 0;
+    // No `for`: a read says how many bytes it brought.
+    while n < room.len() {
+        let k = file.read(&mut room[n..])?;
+        if k == 0 {
+            break;
+        }
+        n += k;
+    }
+    Ok(&room[..n])
+}
+
+// A room of N places that hold x.
+pub fn room<T: Copy, const N: usize>(x: T) -> [T; N]
+    ensures { N ≡ length result }
+{
+    [x; N]
 }

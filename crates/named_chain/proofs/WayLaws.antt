@@ -1,7 +1,8 @@
 -- The way back over a setting: what gives a score there, that there is room for the way, and the chain that is returned. Assumes nothing.
 use Prim.Native.Nat.{ℕ, suc, ◌+◌, ◌-◌, ◌≤◌, ◌<◌}
+use Rattle.std.specs.Prelude.{Option, Some, None, MatchOption}
 use mathlib.Core.Path.{◌≡◌, refl, sym, ap, ◌∙◌}
-use mathlib.Core.Logic.{◌≢◌, ◌⊎◌, inl, inr}
+use mathlib.Core.Logic.{◌≢◌}
 use mathlib.Core.List.{List, [], ◌∷◌, ◌++◌, append-nil}
 use native.Mathlib.Nat.{le_refl}
 use native.Mathlib.Omega.{arith}
@@ -22,10 +23,10 @@ use Rattle.anchors.specs.Anchors.{AnchorSet}
 use Rattle.chain.specs.Steps.{anchor_at}
 use Rattle.chain.specs.Named.{Gives, Back, stop, go, Top, empty, some}
 use Rattle.chain.proofs.NamedLaws.{given}
-use Rattle.steps.specs.Setting.{Setting, anchor_of, step_of, Holds}
+use Rattle.steps.specs.Setting.{Setting, anchor_of, row_in, step_of, Holds}
 use Rattle.steps.specs.Scores.{Scored}
-use Rattle.score_giver.specs.Giver.{Lowest}
-use Rattle.named_chain.specs.Returning.{Origin, CameFrom, WayBack, ChainLaid}
+use Rattle.score_giver.specs.Giver.{NoneHas, Lowest, GivesIn}
+use Rattle.named_chain.specs.Returning.{CameFrom, WayBack, ChainLaid}
 use Rattle.steps.proofs.HeldLaws.{held-within, within_held, held_number, held-order, step-told}
 use Rattle.steps.proofs.SettingLaws.{held-step}
 
@@ -55,8 +56,8 @@ module _ {s : Setting} {g : Graph} {a : AnchorSet} (H : Holds s g a) (S : List �
 -- ---- where to go back to
 
 module _ {s : Setting} {S : List ℕ} (z : Scored s S) (j : ℕ) (w : Within s.count j) where
-  pub origin_none : entry j S ≡ (anchor_of s j).weight → CameFrom s S j 0
-  origin_none e g a H = inl (e ∙ weigh H S j w, refl)
+  pub origin_none : entry j S ≡ (anchor_of s j).weight → CameFrom s S j None
+  origin_none e g a H = e ∙ weigh H S j w
 
   -- an anchor whose score is not its weight has one that gives it
   given-there : entry j S ≢ (anchor_of s j).weight → (i : ℕ) × Within s.count i × GivesOf s S j i
@@ -65,19 +66,23 @@ module _ {s : Setting} {S : List ℕ} (z : Scored s S) (j : ℕ) (w : Within s.c
       let (i, p) = given z.g z.a.anchors S best j (held-within z.holds w) (λ e. n (e ∙ sym (weigh z.holds S j w))) in
       (i, within_held z.holds p.within, gives_of z.holds S i j w p)
 
-  pub origin_from : {r : ℕ} → entry j S ≢ (anchor_of s j).weight → Lowest (GivesOf s S j) s.count r → CameFrom s S j r
-  origin_from {r} n l g a H = on l.there
-    where
-      on : (r ≡ 0) ⊎ (Within s.count r × GivesOf s S j r) → Origin g a.anchors S j r
-      on (inl e) = let (i, wi, p) = given-there n in absurd (omega (arith, (l.low i wi p).0))
-      on (inr (wr, p)) =
-          inr (
-            λ e. n (e ∙ sym (weigh H S j w)),
-            record {
-              gives = giving H S r j wr w p;
-              lowest = λ h q. (l.low h (within_held H q.within) (gives_of H S h j w q)).1;
-            },
-          )
+  pub origin_from : (r : Option ℕ) → entry j S ≢ (anchor_of s j).weight → MatchOption r (NoneHas (GivesOf s S j) s.count) (Lowest (GivesOf s S j) s.count) → CameFrom s S j r
+  origin_from None n l g a H = let (i, wi, p) = given-there n in absurd (l i wi p)
+  origin_from (Some i) n l g a H = (
+    λ e. n (e ∙ sym (weigh H S j w)),
+    record {
+      gives = giving H S i j l.there w l.has;
+      lowest = λ h q. l.low h (within_held H q.within) (gives_of H S h j w q);
+    },
+  )
+
+  -- what gives the score by the row of anchor j's vertex gives it by the setting's steps
+  pub origin_by : (r : Option ℕ) (row : List ℕ) → entry j S ≢ (anchor_of s j).weight → row ≡ row_in s (anchor_of s j).v
+      → MatchOption r (NoneHas (GivesIn s.ends S row (entry j S) (anchor_of s j).v (anchor_of s j).x (anchor_of s j).c (anchor_of s j).weight) (length S))
+      (Lowest (GivesIn s.ends S row (entry j S) (anchor_of s j).v (anchor_of s j).x (anchor_of s j).c (anchor_of s j).weight) (length S))
+      → CameFrom s S j r
+  unfolding step_of
+  origin_by r row n e h = origin_from r n (rw (e, z.size) at h)
 
 -- ---- room: the anchors whose read place is below that of anchor j
 
@@ -158,68 +163,51 @@ module _ {s : Setting} {S back : List ℕ} {last : ℕ} where
     goes = λ g a H js b. rw (drop_of_length-le back {i = s.count} (omega arith), append-nil js) b;
   }
 
-  module _ {at j i : ℕ} (z : Scored s S) (t : Going s S back last at j) (o : CameFrom s S j i) where
+  module _ {at j : ℕ} (z : Scored s S) (t : Going s S back last at j) where
     written : drop (at - 1) (set back (at - 1) j) ≡ j ∷ drop at back
     written = front-set back at j (omega (arith, t.room)) (omega (arith, t.upto, t.size))
 
-    pub going_end : i ≡ 0 → WayBack s S last (drop (at - 1) (set back (at - 1) j))
-    going_end e g a H = rw written (on (o g a H))
-      where
-        on : Origin g a.anchors S j i → Back g a.anchors S last (j ∷ drop at back)
-        on (inl (q, k)) = t.goes g a H (j ∷ []) (stop q)
-        on (inr (n, l)) = absurd (omega (arith, l.gives.within.low))
+    pub going_end : CameFrom s S j None → WayBack s S last (drop (at - 1) (set back (at - 1) j))
+    going_end o g a H = rw written (t.goes g a H (j ∷ []) (stop (o g a H)))
 
-    lower : i ≢ 0 → Within s.count i × ((anchor_of s i).c < (anchor_of s j).c)
-    lower n = on (o z.g z.a z.holds)
-      where
-        on : Origin z.g z.a.anchors S j i → Within s.count i × ((anchor_of s i).c < (anchor_of s j).c)
-        on (inl (q, k)) = absurd (n k)
-        on (inr (m, l)) =
-            let wi = within_held z.holds l.gives.within in
-            (wi, held-order z.holds i j l.gives.k wi t.within l.gives.step)
+    lower : {i : ℕ} → CameFrom s S j (Some i) → Within s.count i × ((anchor_of s i).c < (anchor_of s j).c)
+    lower {i} o =
+        let l = (o z.g z.a z.holds).1 in
+        let wi = within_held z.holds l.gives.within in
+        (wi, held-order z.holds i j l.gives.k wi t.within l.gives.step)
 
-    pub going_more : i ≢ 0 → Going s S (set back (at - 1) j) last (at - 1) i
-    going_more n = record {
-      within = (lower n).0;
+    pub going_more : {i : ℕ} → CameFrom s S j (Some i) → Going s S (set back (at - 1) j) last (at - 1) i
+    going_more {i} o = record {
+      within = (lower o).0;
       size = simp length-set t.size;
       upto = omega (arith, t.upto);
-      room = omega (arith, t.room, below-falls s i j (lower n).0 (lower n).1);
-      goes = λ g a H js b. on g a H js b (o g a H);
+      room = omega (arith, t.room, below-falls s i j (lower o).0 (lower o).1);
+      goes = λ g a H js b. rw (written, ← append_snoc js j (drop at back)) (t.goes g a H (js ++ (j ∷ [])) (go (o g a H).0 (o g a H).1 b));
     }
-      where
-        on : (g : Graph) (a : AnchorSet) → Holds s g a → (js : List ℕ) → Back g a.anchors S i js → Origin g a.anchors S j i
-            → Back g a.anchors S last (js ++ drop (at - 1) (set back (at - 1) j))
-        on g a H js b (inl (q, k)) = absurd (n k)
-        on g a H js b (inr (m, l)) = rw (written, ← append_snoc js j (drop at back)) (t.goes g a H (js ++ (j ∷ [])) (go m l b))
 
 -- ---- the chain as it is lent back
 
--- there is room for the way back
-pub room-there : (b n full m r : ℕ) → b ≡ n → n ≤ full → full ≤ m → b ≤ m + r
-room-there b n full m r e l h = omega arith
+module _ {s : Setting} {S : List ℕ} (z : Scored s S) where
+  pub count_few : s.count ≤ full_chain
+  count_few = omega (arith, z.holds.good_anchors.few_anchors, z.holds.anchors_are)
 
-pub count-few : {s : Setting} {S : List ℕ} → Scored s S → s.count ≤ full_chain
-count-few z = omega (arith, z.holds.good_anchors.few_anchors, z.holds.anchors_are)
+  pub chain_none : (old : List ℕ) → length S ≡ 0 → ChainLaid s S old (laid full_chain (take 0 old) old) 0 0
+  chain_none old e = record { js = []; returned = λ g a H. empty (omega (arith, H.anchors_are, z.size)); long = refl; lies = refl }
 
-module _ {s : Setting} {S : List ℕ} where
-  pub chain-none : (old : List ℕ) → s.count ≡ 0 → ChainLaid s S old (laid full_chain (take 0 old) old) 0 0
-  chain-none old e = record { js = []; returned = λ g a H. empty (omega (arith, H.anchors_are)); long = refl; lies = refl }
-
-  pub chain-some : (back old out : List ℕ) (last at : ℕ) → length back ≡ s.count → at ≤ s.count → s.count ≤ full_chain → Top s.count S last
-      → WayBack s S last (drop at back) → out ≡ front (drop at back) old
-      → ChainLaid s S old (laid full_chain (take (s.count - at) out) out) (s.count - at) (entry last S)
-  chain-some back old out last at l h f t b e =
-      let n : length (drop at back) ≡ s.count - at = length-drop at back ∙ ap (λ (k : ℕ). k - at) l in
+  pub chain_some : (back way old out : List ℕ) (last at : ℕ) → length back ≡ s.count → way ≡ drop at back → Top (length S) S last
+      → WayBack s S last (drop at back) → out ≡ front way old
+      → ChainLaid s S old (laid full_chain (take (length way) out) out) (length way) (entry last S)
+  chain_some back way old out last at l h t b e =
       record {
-        js = drop at back;
-        returned = λ g a H. some (top g a H) (b g a H);
-        long = n;
-        lies = laid-after full_chain (drop at back) out old (s.count - at) n (omega arith) e;
+        js = way;
+        returned = λ g a H. some (top g a H) (rw h (b g a H));
+        long = refl;
+        lies = laid-after full_chain way out old (length way) refl (omega (arith, count_few, length-drop at back, ap length h)) e;
       }
     where
       top : (g : Graph) (a : AnchorSet) → Holds s g a → Top (length a.anchors) S last
       top g a H = record {
-        within = held-within H t.within;
-        greatest = λ i w. t.greatest i (within_held H w);
-        lowest = λ i w q. t.lowest i (within_held H w) q;
+        within = held-within H (rw z.size at t.within);
+        greatest = λ i w. t.greatest i (rw z.size (within_held H w));
+        lowest = λ i w q. t.lowest i (rw z.size (within_held H w)) q;
       }

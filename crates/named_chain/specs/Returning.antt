@@ -1,5 +1,5 @@
 -- What the functions of the named chain say: where to go back to, the way back, and the chain as it is lent back.
-use Rattle.std.specs.Prelude.{ℕ, ◌≡◌, ◌≢◌, ◌⊎◌, List, length}
+use Rattle.std.specs.Prelude.{ℕ, ◌≡◌, ◌≢◌, List, length, Option, MatchOption}
 use Rattle.wire.specs.Lent.{laid}
 use Rattle.wire.specs.Sizes.{full_chain}
 use Rattle.rounds.specs.Table.{entry}
@@ -9,13 +9,13 @@ use Rattle.chain.specs.Steps.{anchor_at}
 use Rattle.chain.specs.Named.{LowestGiving, Back, Returned}
 use Rattle.steps.specs.Setting.{Setting, Holds}
 
--- "Going back from an anchor: stop if its score is its weight, else take the lowest-numbered anchor that gives its score.": 0 where it stops
-abbrev pub Origin : Graph → List Anchor → List ℕ → ℕ → ℕ → Type 0
+-- "Going back from an anchor: stop if its score is its weight, else take the lowest-numbered anchor that gives its score.": None where it stops
+abbrev pub Origin : Graph → List Anchor → List ℕ → ℕ → Option ℕ → Type 0
 Origin g anchors S j r =
-    ((entry j S ≡ (anchor_at anchors j).weight) × (r ≡ 0)) ⊎ ((entry j S ≢ (anchor_at anchors j).weight) × LowestGiving g anchors S r j)
+    MatchOption r (entry j S ≡ (anchor_at anchors j).weight) (λ i. (entry j S ≢ (anchor_at anchors j).weight) × LowestGiving g anchors S i j)
 
 -- r is where to go back to from anchor j, whatever graph and anchors are held
-abbrev pub CameFrom : Setting → List ℕ → ℕ → ℕ → Type 0
+abbrev pub CameFrom : Setting → List ℕ → ℕ → Option ℕ → Type 0
 CameFrom s scores j r = (g : Graph) (a : AnchorSet) → Holds s g a → Origin g a.anchors scores j r
 
 -- js is the way back from anchor j, in read order, whatever graph and anchors are held

@@ -4,16 +4,15 @@
 ghost use Rattle.std.specs.Prelude.{◌≡◌, ◌≤◌, length, drop};
 ghost use Rattle.wire.specs.Sizes.{full_chain};
 ghost use Rattle.rounds.specs.Rounds.{Within};
-ghost use Rattle.steps.specs.Setting.{setting_of};
 ghost use Rattle.steps.specs.Scores.{Scored};
 ghost use Rattle.named_chain.specs.Returning.{CameFrom, WayBack, ChainLaid};
 
-use anchors::PER_ANCHOR;
-use chain_parts::{copy_from, top};
+use chain_parts::top;
 use score_giver::giver;
+use steps::setting::Setting;
 use vertex_row::make_row;
 use wire::sizes::FULL_CHAIN;
-use wire_lent::zero_rest_u32;
+use wire_lent::zero_rest;
 
 // The length of the chain that is returned, and its score.
 #[derive(Clone, Copy)]
@@ -22,130 +21,73 @@ pub struct Chained {
     pub score: u32,
 }
 
-// The anchor to go back to from anchor j; 0 to stop there: "stop if its score is its weight, else take the lowest-numbered anchor that gives its score".
-fn came_from(
-    n: usize,
-    k: usize,
-    count: usize,
-    lengths: &[u32],
-    paths: &[u32],
-    reach: &[u32],
-    distance: &[u32],
-    closed: &[u32],
-    numbers: &[u32],
-    us: &[u32],
-    ys: &[u32],
-    ds: &[u32],
-    scores: &[u32],
-    row: &mut [u32],
-    j: usize,
-) -> usize
-    requires scored { Scored (setting_of n k count lengths.now paths.now reach.now distance.now closed.now numbers.now us.now ys.now ds.now) scores.now }
-    requires within { Within count j × (length row.old ≡ n) }
-    ensures { CameFrom (setting_of n k count lengths.now paths.now reach.now distance.now closed.now numbers.now us.now ys.now ds.now) scores.now j result }
+// The anchor to go back to from anchor j; None to stop there: "stop if its score is its weight, else take the lowest-numbered anchor that gives its score".
+fn came_from(s: &Setting<'_>, scores: &[u32], row: &mut [u32], j: usize) -> Option<usize>
+    requires scored { Scored s.now scores.now }
+    requires within { Within s.now.count j × (length row.old ≡ s.now.n) }
+    ensures { CameFrom s.now scores.now j result }
 {
-    let at = PER_ANCHOR * (j - 1);
-    let v = numbers[at];
-    let weight = numbers[at + 4];
+    let to = s.start(j - 1);
     let score = scores[j - 1];
-    if score == weight {
-        return 0;
+    if score == to.weight {
+        return None;
     }
-    make_row(row, v, n, k, lengths, paths, reach, distance, closed);
-    giver(
-        count,
-        us,
-        ys,
-        ds,
-        scores,
-        row,
-        score,
-        v,
-        numbers[at + 1],
-        numbers[at + 2],
-        weight,
-    )
+    make_row(row, to.v, &s.tables);
+    giver(&s.ends, scores, row, score, to)
 }
 
 // The way back from anchor `last`, written from the end of `back` towards its front, so that it stands in read order; the answer is the place of its
 // first anchor.
 fn way_back(
-    n: usize,
-    k: usize,
-    count: usize,
-    lengths: &[u32],
-    paths: &[u32],
-    reach: &[u32],
-    distance: &[u32],
-    closed: &[u32],
-    numbers: &[u32],
-    us: &[u32],
-    ys: &[u32],
-    ds: &[u32],
+    s: &Setting<'_>,
     scores: &[u32],
     row: &mut [u32],
     last: usize,
     back: &mut [u32],
 ) -> usize
-    requires scored { Scored (setting_of n k count lengths.now paths.now reach.now distance.now closed.now numbers.now us.now ys.now ds.now) scores.now }
-    requires within { Within count last × (length row.old ≡ n) × (length back.old ≡ count) }
-    ensures { (result ≤ count) × WayBack (setting_of n k count lengths.now paths.now reach.now distance.now closed.now numbers.now us.now ys.now ds.now) scores.now last (drop result back.new) }
+    requires scored { Scored s.now scores.now }
+    requires within { Within s.now.count last × (length row.old ≡ s.now.n) × (length back.old ≡ s.now.count) }
+    ensures { (result ≤ s.now.count) × WayBack s.now scores.now last (drop result back.new) }
 {
     let mut j = last;
-    let mut at = count;
+    let mut at = back.len();
+    // No `for`: each anchor is known by the one that it gives its score to.
     loop {
         at -= 1;
         back[at] = j as u32;
-        let i = came_from(
-            n, k, count, lengths, paths, reach, distance, closed, numbers, us, ys, ds, scores, row,
-            j,
-        );
-        if i == 0 {
-            return at;
+        match came_from(s, scores, row, j) {
+            Some(i) => j = i,
+            None => return at,
         }
-        j = i;
     }
 }
 
 // The chain that is returned, in read order at the front of `chain`, and 0 in the other places up to the full size.
 pub fn list_chain(
-    n: usize,
-    k: usize,
-    count: usize,
-    lengths: &[u32],
-    paths: &[u32],
-    reach: &[u32],
-    distance: &[u32],
-    closed: &[u32],
-    numbers: &[u32],
-    us: &[u32],
-    ys: &[u32],
-    ds: &[u32],
+    s: &Setting<'_>,
     scores: &[u32],
     row: &mut [u32],
     back: &mut [u32],
     chain: &mut [u32],
 ) -> Chained
-    requires scored { Scored (setting_of n k count lengths.now paths.now reach.now distance.now closed.now numbers.now us.now ys.now ds.now) scores.now }
-    requires row_len { (length row.old ≡ n) × (length back.old ≡ count) × (full_chain ≤ length chain.old) }
-    ensures { ChainLaid (setting_of n k count lengths.now paths.now reach.now distance.now closed.now numbers.now us.now ys.now ds.now) scores.now chain.old chain.new result.length result.score }
+    requires scored { Scored s.now scores.now }
+    requires row_len { (length row.old ≡ s.now.n) × (length back.old ≡ s.now.count) × (full_chain ≤ length chain.old) }
+    ensures { ChainLaid s.now scores.now chain.old chain.new result.length result.score }
 {
-    if count == 0 {
-        zero_rest_u32(chain, 0, FULL_CHAIN);
+    if scores.is_empty() {
+        zero_rest(chain, 0, FULL_CHAIN);
         return Chained {
             length: 0,
             score: 0,
         };
     }
-    let last = top(scores, count);
-    let at = way_back(
-        n, k, count, lengths, paths, reach, distance, closed, numbers, us, ys, ds, scores, row,
-        last, back,
-    );
-    copy_from(back, at, chain);
-    zero_rest_u32(chain, count - at, FULL_CHAIN);
+    let last = top(scores);
+    let at = way_back(s, scores, row, last, back);
+    let way = &back[at..];
+    chain[..way.len()].copy_from_slice(way);
+    zero_rest(chain, way.len(), FULL_CHAIN);
     Chained {
-        length: count - at,
+        length: way.len(),
         score: scores[last - 1],
     }
 }

@@ -9,41 +9,28 @@
 // case the program writes `not a case`.
 #![tactic(auto)]
 
-ghost use Rattle.std.specs.Prelude.{◌≡◌, true, ℕ, ◌≤◌, ◌<◌, length, take, drop, get_or};
+ghost use Rattle.std.specs.Prelude.{◌≡◌, ℕ, ◌≤◌, ◌<◌, length, take, drop, get_or, IfSome};
 ghost use Rattle.numbercases.specs.Digits.{digit_byte};
 ghost use Rattle.numbercases.specs.Cases.{DecimalOf, BytesOf};
 
 use caseinput::input::read_full;
 use std::io;
 use std::io::Write;
-use wire::numbers::{Cursor, Number, group_count, put_number, read_number};
-
-// A decimal number, or other text.
-#[derive(Clone, Copy)]
-enum Decimal {
-    Value(u64),
-    Other,
-}
-
-// How many bytes hexadecimal text writes, or other text.
-#[derive(Clone, Copy)]
-enum Hex {
-    Bytes(usize),
-    Other,
-}
+use wire::numbers::{Cursor, group_count, put_number, read_number};
+use wire::refusals::Fault;
 
 // The first n bytes of s, or all where it has no more.
 fn head(s: &[u8], n: usize) -> &[u8]
     ensures { result.now ≡ take n s.now }
 {
-    if n < s.len() { &s[..n] } else { s }
+    &s[..n.min(s.len())]
 }
 
 // What follows the first n bytes of s.
 fn tail(s: &[u8], n: usize) -> &[u8]
     ensures { result.now ≡ drop n s.now }
 {
-    if n < s.len() { &s[n..] } else { &s[..0] }
+    &s[n.min(s.len())..]
 }
 
 // The index of the first byte of s that equals b, or the length of s where there is none.
@@ -52,193 +39,109 @@ fn find(s: &[u8], b: u8) -> usize
     ensures before { (k : ℕ) → k < result → get_or s.now k 0 ≡ b → ⊥ }
     ensures found { result < length s.now → get_or s.now result 0 ≡ b }
 {
-    let mut i = 0;
-    while i < s.len() {
-        if s[i] == b {
-            return i;
-        }
-        i += 1;
-    }
-    i
+    s.iter().position(|x| *x == b).unwrap_or(s.len())
 }
 
-// Whether s starts with the bytes of word.
-fn starts(s: &[u8], word: &[u8]) -> bool
-    ensures { result ≡ true → (k : ℕ) → k < length word.now → get_or s.now k 0 ≡ get_or word.now k 0 }
+// The digit that a byte writes, where it writes one.
+fn digit(b: u8) -> Option<u8>
+    ensures { IfSome result (λ d. (d < 16) × (digit_byte d ≡ b)) }
 {
-    if s.len() < word.len() {
-        return false;
+    match b {
+        b'0'..=b'9' => Some(b - b'0'),
+        b'A'..=b'F' => Some(b - b'A' + 10),
+        _ => None,
     }
-    let mut i = 0;
-    while i < word.len() {
-        if s[i] != word[i] {
-            return false;
-        }
-        i += 1;
-    }
-    true
 }
 
-// The digit that a byte writes, or 16 where it writes none.
-fn digit(b: u8) -> u8
-    ensures upper_bound { result ≤ 16 }
-    ensures result_value { result < 16 → digit_byte result ≡ b }
-{
-    if b < b'0' {
-        return 16;
-    }
-    if b <= b'9' {
-        return b - b'0';
-    }
-    if b < b'A' {
-        return 16;
-    }
-    if b <= b'F' {
-        return b - b'A' + 10;
-    }
-    16
-}
-
-// The byte that writes the digit d.
-fn digit_byte(d: u8) -> u8
-    requires { d < 16 }
-    ensures { result ≡ digit_byte d }
-{
-    if d < 10 { b'0' + d } else { b'A' + (d - 10) }
-}
-
-// Reads s as a decimal number. One above 1,000,000,000,009 counts as other text.
-fn read_decimal(s: &[u8]) -> Decimal
+// Reads s as a decimal number, where it is one. One above 1,000,000,000,009 counts as other text.
+fn read_decimal(s: &[u8]) -> Option<u64>
     ensures { DecimalOf result s.now }
 {
-    if s.len() == 0 {
-        return Decimal::Other;
+    if s.is_empty() {
+        return None;
     }
     let mut value: u64 = 0;
-    let mut i = 0;
-    while i < s.len() {
-        let d = digit(s[i]);
-        if 9 < d {
-            return Decimal::Other;
+    for b in s {
+        let d = digit(*b)?;
+        if 9 < d || 100000000000 < value {
+            return None;
         }
-        if 100000000000 < value {
-            return Decimal::Other;
-        }
-        value = value * 10 + d as u64;
-        i += 1;
+        value = value * 10 + u64::from(d);
     }
-    Decimal::Value(value)
+    Some(value)
 }
 
-// Reads pairs of digits to the front of out. Text for more bytes than out has counts as other text.
-fn read_pairs(s: &[u8], out: &mut [u8]) -> Hex
+// Reads pairs of digits to the front of out, and says how many bytes they write. Text for more bytes than out has counts as other text.
+fn read_pairs(s: &[u8], out: &mut [u8]) -> Option<usize>
     ensures { BytesOf result out.new s.now }
 {
     let n = s.len() / 2;
     if out.len() < n {
-        return Hex::Other;
+        return None;
     }
-    let mut i = 0;
-    while i < n {
-        let high = digit(s[2 * i]);
-        let low = digit(s[2 * i + 1]);
-        if 15 < high {
-            return Hex::Other;
-        }
-        if 15 < low {
-            return Hex::Other;
-        }
+    for i in 0..n {
+        let high = digit(s[2 * i])?;
+        let low = digit(s[2 * i + 1])?;
         out[i] = high * 16 + low;
-        i += 1;
     }
-    Hex::Bytes(n)
+    Some(n)
 }
 
-// Reads HEX to the front of out: pairs of digits, or `-` for no bytes.
-fn read_hex(s: &[u8], out: &mut [u8]) -> Hex
+// Reads HEX to the front of out: pairs of digits, or `-` for no bytes. How many bytes they write, where it is one.
+fn read_hex(s: &[u8], out: &mut [u8]) -> Option<usize>
     ensures { BytesOf result out.new s.now }
 {
-    if s.len() == 1 {
-        if s[0] == b'-' {
-            return Hex::Bytes(0);
-        }
+    if s.len() == 1 && s[0] == b'-' {
+        return Some(0);
     }
-    if s.len() == 0 {
-        return Hex::Other;
-    }
-    if s.len() % 2 == 1 {
-        return Hex::Other;
+    if s.is_empty() || s.len() % 2 == 1 {
+        return None;
     }
     read_pairs(s, out)
-}
-
-// Writes text.
-fn say(to: &mut impl Write, text: &[u8]) -> io::Result<()> {
-    to.write_all(text)
-}
-
-// Writes a number.
-fn say_number(to: &mut impl Write, n: u64) -> io::Result<()> {
-    write!(to, "{n}")
-}
-
-// Writes one byte as two digits.
-fn say_byte(to: &mut impl Write, b: u8) -> io::Result<()> {
-    let mut text = [0u8; 2];
-    text[0] = digit_byte(b / 16);
-    text[1] = digit_byte(b % 16);
-    say(to, &text)
 }
 
 // Writes bytes as hexadecimal digits.
 fn say_bytes(to: &mut impl Write, bytes: &[u8]) -> io::Result<()> {
     for b in bytes {
-        say_byte(to, *b)?;
+        write!(to, "{b:02X}")?;
     }
     Ok(())
 }
 
 // Writes that a line is not a case.
 fn not_a_case(to: &mut impl Write) -> io::Result<()> {
-    say(to, b"not a case\n")
+    to.write_all(b"not a case\n")
 }
 
 // Writes what reading a number found.
-fn say_found(to: &mut impl Write, found: Number) -> io::Result<()> {
+fn say_found(to: &mut impl Write, found: Result<(u32, Cursor), Fault>) -> io::Result<()> {
     match found {
-        Number::Value(value, next) => {
-            say(to, b" -> value ")?;
-            say_number(to, value as u64)?;
-            say(to, b" next ")?;
-            say_number(to, next.at as u64)?;
+        Ok((value, next)) => {
+            let at = next.at;
+            writeln!(to, " -> value {value} next {at}")
         }
-        Number::Fault(fault, place) => {
-            say(to, b" -> fault ")?;
-            say_number(to, fault as u64)?;
-            say(to, b" place ")?;
-            say_number(to, place as u64)?;
+        Err(fault) => {
+            let number = u32::from(fault.refusal);
+            let place = fault.place;
+            writeln!(to, " -> fault {number} place {place}")
         }
     }
-    say(to, b"\n")
 }
 
 // Answers the line `read HEX at PLACE`, of which `rest` is what follows `read `.
 fn answer_read(to: &mut impl Write, line: &[u8], rest: &[u8]) -> io::Result<()> {
     let space = find(rest, b' ');
-    let after = tail(rest, space);
-    if !starts(after, b" at ") {
+    let Some(place) = tail(rest, space).strip_prefix(b" at ") else {
         return not_a_case(to);
-    }
-    let place = read_decimal(tail(after, 4));
-    let Decimal::Value(at) = place else {
+    };
+    let Some(at) = read_decimal(place) else {
         return not_a_case(to);
     };
     let mut bytes = [0u8; 64];
-    let read = read_hex(head(rest, space), &mut bytes);
-    let Hex::Bytes(n) = read else {
+    let Some(n) = read_hex(head(rest, space), &mut bytes) else {
         return not_a_case(to);
     };
-    say(to, line)?;
+    to.write_all(line)?;
     say_found(to, read_number(head(&bytes, n), Cursor { at: at as usize }))
 }
 
@@ -246,53 +149,48 @@ fn answer_read(to: &mut impl Write, line: &[u8], rest: &[u8]) -> io::Result<()> 
 fn say_written(to: &mut impl Write, x: u32) -> io::Result<()> {
     let counted = group_count(x);
     if 5 < counted {
-        return say(to, b"group_count differs");
+        return to.write_all(b"group_count differs");
     }
     let mut out = [0u8; 5];
     let n = put_number(&mut out, x);
     if n != counted {
-        return say(to, b"group_count differs");
+        return to.write_all(b"group_count differs");
     }
     say_bytes(to, head(&out, n))
 }
 
 // Answers the line `write V`, of which `rest` is what follows `write `.
 fn answer_write(to: &mut impl Write, line: &[u8], rest: &[u8]) -> io::Result<()> {
-    let value = read_decimal(rest);
-    let Decimal::Value(x) = value else {
+    let Some(value) = read_decimal(rest) else {
         return not_a_case(to);
     };
-    if 4294967295 < x {
+    let Ok(x) = u32::try_from(value) else {
         return not_a_case(to);
-    }
-    say(to, line)?;
-    say(to, b" -> ")?;
-    say_written(to, x as u32)?;
-    say(to, b"\n")
+    };
+    to.write_all(line)?;
+    to.write_all(b" -> ")?;
+    say_written(to, x)?;
+    to.write_all(b"\n")
 }
 
 // Answers one line.
 fn answer(to: &mut impl Write, line: &[u8]) -> io::Result<()> {
-    if starts(line, b"read ") {
-        return answer_read(to, line, tail(line, 5));
+    if let Some(rest) = line.strip_prefix(b"read ") {
+        return answer_read(to, line, rest);
     }
-    if starts(line, b"write ") {
-        return answer_write(to, line, tail(line, 6));
+    if let Some(rest) = line.strip_prefix(b"write ") {
+        return answer_write(to, line, rest);
     }
     not_a_case(to)
 }
 
 // Answers every line of the text.
 fn answer_all(to: &mut impl Write, text: &[u8]) -> io::Result<()> {
-    let mut at = 0;
-    while at < text.len() {
-        let rest = &text[at..];
+    let mut rest = text;
+    while !rest.is_empty() {
         let n = find(rest, b'\n');
         answer(to, head(rest, n))?;
-        at += n;
-        if at < text.len() {
-            at += 1;
-        }
+        rest = tail(rest, n + 1);
     }
     Ok(())
 }
@@ -300,6 +198,5 @@ fn answer_all(to: &mut impl Write, text: &[u8]) -> io::Result<()> {
 fn main(rt: HostRuntime) -> io::Result<()> {
     let mut space = [0u8; 65536];
     let n = read_full(&mut rt.stdin(), &mut space)?;
-    let mut to = rt.stdout();
-    answer_all(&mut to, head(&space, n))
+    answer_all(&mut rt.stdout(), head(&space, n))
 }

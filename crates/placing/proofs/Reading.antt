@@ -25,7 +25,7 @@ use Rattle.anchors_read.specs.Answer.{answer_of, Answered}
 use Rattle.anchors_read.specs.declared.AnchorsAnswer.{AnchorsAnswer}
 use Rattle.chain.specs.Steps.{anchor_at}
 use Rattle.chain.specs.ChainEntries.{ChainBuffers, roomy_chain, chain_reply}
-use Rattle.placing_over.specs.Lying.{AnchorsLie}
+use Rattle.engine.specs.Lying.{AnchorsLie}
 use Rattle.placing.specs.Begun.{Taken, Begun}
 
 -- ---- the anchors as they lie

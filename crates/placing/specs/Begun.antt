@@ -7,7 +7,7 @@ use Rattle.anchors.specs.Anchors.{AnchorSet, read_length}
 use Rattle.anchors.specs.AnchorEntries.{Both}
 use Rattle.anchors_read.specs.declared.AnchorsAnswer.{AnchorsAnswer}
 use Rattle.chain.specs.ChainEntries.{ChainBuffers, chain_reply}
-use Rattle.placing_over.specs.Lying.{AnchorsLie}
+use Rattle.engine.specs.Lying.{AnchorsLie}
 
 -- both files are accepted, each lent buffer has full size, and the anchors lie in `numbers`
 pub record Taken (graph file : List ℕ) (b : ChainBuffers) (numbers : List ℕ) (r : AnchorsAnswer) : Type 0 where

@@ -4,13 +4,12 @@
 ghost use Rattle.std.specs.Prelude.{◌≡◌, ◌≤◌, length};
 ghost use Rattle.wire.specs.Sizes.{full_letters, full_anchors};
 ghost use Rattle.chain.specs.ChainEntries.{room_for_chain};
-ghost use Rattle.tables_make.specs.Made.{zeros};
 ghost use Rattle.placing.specs.Answer.{refusal_of, placed_of};
 ghost use Rattle.placing.specs.Begun.{Begun};
 
 use anchors_read::{AnchorsAnswer, read_anchors};
 use placing_over::over::Placement;
-use wire::refusals::SMALL_BUFFER;
+use wire::refusals::Refusal;
 use wire::sizes::{FULL_CHAIN, FULL_SCORES};
 
 // Number, file and place; then the anchors of the file, the greatest score, the rounds and the chain's length.
@@ -24,13 +23,6 @@ pub struct ChainAnswer {
     pub score: u32,
     pub rounds: u32,
     pub length: u32,
-}
-
-// A room of zeros for the numbers of anchors.
-pub fn anchor_number_zeros() -> [u32; 10240]
-    ensures { result ≡ zeros 10240 }
-{
-    [0u32; 10240]
 }
 
 // A refusal: its other numbers are 0.
@@ -67,10 +59,7 @@ pub fn acceptance(anchors: u32, t: Placement) -> ChainAnswer
 fn roomy(scores: usize, chain: usize) -> bool
     ensures { result ≡ room_for_chain scores chain }
 {
-    if scores < FULL_SCORES {
-        return false;
-    }
-    FULL_CHAIN <= chain
+    FULL_SCORES <= scores && FULL_CHAIN <= chain
 }
 
 // Begins a call on both files: 13, then the refusals of the two files; else the anchors' numbers are read. `letters` is room to work in.
@@ -87,7 +76,7 @@ pub fn begin(
 {
     if !roomy(scores.len(), chain.len()) {
         return AnchorsAnswer {
-            number: SMALL_BUFFER,
+            number: u32::from(Refusal::SmallBuffer),
             file: 0,
             place: 0,
             letters: 0,

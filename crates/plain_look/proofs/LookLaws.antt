@@ -1,6 +1,6 @@
 -- Looking back over the anchors that were taken, one after the other. Assumes nothing.
 use Prim.Native.Nat.{ℕ, ◌+◌, ◌-◌, ◌≤◌, ◌<◌, max}
-use mathlib.Core.Path.{◌≡◌, refl, sym, ap, ◌∙◌, subst}
+use mathlib.Core.Path.{◌≡◌, refl, sym, ap, ◌∙◌}
 use mathlib.Core.Logic.{◌⊎◌, inl, inr}
 use mathlib.Core.List.{List}
 use native.Mathlib.Nat.{le_refl}
@@ -10,10 +10,6 @@ use lib.ListN.{get_or}
 use Rattle.pair_step.specs.Pairs.{Greatest}
 use Rattle.pair_step.proofs.PairLaws.{greatest-more, raised_one}
 use Rattle.read_order.specs.Order.{Among}
-
--- none is one of the first 0
-pub among_none : (order : List ℕ) (i : ℕ) → Among order 0 i → ⊥
-among_none order i (p, l, e) = omega arith
 
 module _ (order : List ℕ) (q : ℕ) where
   among_up : (i : ℕ) → Among order q i → Among order (q + 1) i
@@ -35,13 +31,11 @@ module _ {own weight : ℕ} {step score : ℕ → ℕ} (order : List ℕ) (q : �
   look_skip e = greatest-more b (among_up order q) (among-here order q) (among-only order q) (le_refl r) (λ l. absurd (omega arith)) (inl refl)
 
   -- one with a step gives its candidate
-  pub look_take : {s t : ℕ} → s ≡ step (get_or order q 0) → 1 ≤ s → t ≡ max r (score (get_or order q 0) + weight - (s - 1))
-      → Greatest own weight step score (Among order (q + 1)) t
-  look_take {s} {t} e l h =
-      greatest-more b (among_up order q) (among-here order q) (among-only order q) (omega arith)
-      (λ _. subst (λ (k : ℕ). score (get_or order q 0) + weight ≤ t + (k - 1)) e (omega arith)) (on (raised_one r (score (get_or order q 0) + weight) (s - 1)))
+  pub look_take : (gaps : ℕ) {t : ℕ} → step (get_or order q 0) ≡ gaps + 1 → t ≡ max r (score (get_or order q 0) + weight - gaps) → Greatest own weight step score (Among order (q + 1)) t
+  look_take gaps {t} e h =
+      greatest-more b (among_up order q) (among-here order q) (among-only order q) (omega arith) (λ _. omega arith) (on (raised_one r (score (get_or order q 0) + weight) gaps))
     where
-      on : (max r (score (get_or order q 0) + weight - (s - 1)) ≡ r) ⊎ (score (get_or order q 0) + weight ≡ max r (score (get_or order q 0) + weight - (s - 1)) + (s - 1))
+      on : (max r (score (get_or order q 0) + weight - gaps) ≡ r) ⊎ (score (get_or order q 0) + weight ≡ max r (score (get_or order q 0) + weight - gaps) + gaps)
           → (t ≡ r) ⊎ ((1 ≤ step (get_or order q 0)) × (score (get_or order q 0) + weight ≡ t + (step (get_or order q 0) - 1)))
       on (inl z) = inl (h ∙ z)
-      on (inr z) = inr (subst (λ (k : ℕ). 1 ≤ k) e l, subst (λ (k : ℕ). score (get_or order q 0) + weight ≡ t + (k - 1)) e (z ∙ ap (λ (k : ℕ). k + (s - 1)) (sym h)))
+      on (inr z) = inr (omega arith, omega arith)

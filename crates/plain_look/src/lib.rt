@@ -9,34 +9,22 @@ ghost use Rattle.read_order.specs.Order.{Among};
 ghost use Rattle.plain_look.specs.Looking.{LooksBack};
 
 use candidates::raised;
+use pair_step::pair::{Ends, Start};
 use pair_step::step::step;
 
-// The greatest of the weight and of the candidates of the first `taken` anchors in read order, for an anchor at (v, x, c) of this weight.
-pub fn look_back(
-    taken: usize,
-    order: &[u32],
-    us: &[u32],
-    ys: &[u32],
-    ds: &[u32],
-    scores: &[u32],
-    row: &[u32],
-    v: u32,
-    x: u32,
-    c: u32,
-    weight: u32,
-) -> u32
-    requires ends_fit { EndsFit (length scores.now) (record { us = us.now; ys = ys.now; ds = ds.now }) }
-    requires row_fits { RowFits (length scores.now) (record { us = us.now; ys = ys.now; ds = ds.now }) row.now }
-    requires looks_back { LooksBack taken order.now scores.now }
-    requires x_le_most_read { (x ≤ most_read) × (c ≤ most_read) × (1 ≤ x) × (weight ≤ most_weight) }
-    ensures { Greatest weight weight (step_from (record { us = us.now; ys = ys.now; ds = ds.now }) row.now v x c) (λ i. entry i scores.now) (Among order.now taken) result }
+// The greatest of the weight and of the candidates of the anchors that are taken, for an anchor that starts there.
+pub fn look_back(taken: &[u32], ends: &Ends<'_>, scores: &[u32], row: &[u32], to: Start) -> u32
+    requires ends_fit { EndsFit (length scores.now) ends.now }
+    requires row_fits { RowFits (length scores.now) ends.now row.now }
+    requires looks_back { LooksBack (length taken.now) taken.now scores.now }
+    requires x_le_most_read { (to.x ≤ most_read) × (to.c ≤ most_read) × (1 ≤ to.x) × (to.weight ≤ most_weight) }
+    ensures { Greatest to.weight to.weight (step_from ends.now row.now to.v to.x to.c) (λ i. entry i scores.now) (Among taken.now (length taken.now)) result }
 {
-    let mut best = weight;
-    for q in 0..taken {
-        let i = order[q] as usize - 1;
-        let s = step(row, us[i], ys[i], ds[i], v, x, c);
-        if 0 < s {
-            best = raised(best, scores[i], weight, s - 1);
+    let mut best = to.weight;
+    for j in taken {
+        let i = *j as usize - 1;
+        if let Some(gaps) = step(row, ends.at(i), to) {
+            best = raised(best, scores[i], to.weight, gaps);
         }
     }
     best

@@ -47,10 +47,8 @@ pub fn back_along(row: &mut [u32], lengths: &[u32], path: &[u32], from: u32, far
     requires { BackFits (length row.old) lengths.now path.now from far }
     ensures { row.new ≡ back_in lengths.now path.now from far row.old }
 {
-    let mut a = from as usize;
     let mut sum = far;
-    while 0 < a {
-        a -= 1;
+    for a in (0..from as usize).rev() {
         put_nearer(row, path[a], sum);
         sum = sum_below(row.len(), lengths, path, a, sum);
     }

@@ -1,12 +1,17 @@
 -- What gives a score, and the lowest-numbered that does.
-use Rattle.std.specs.Prelude.{ℕ, ◌+◌, ◌-◌, ◌≤◌, ◌≡◌, ◌⊎◌, List, get_or}
+use Rattle.std.specs.Prelude.{ℕ, ◌+◌, ◌-◌, ◌≤◌, ◌≡◌, List, get_or}
 use Rattle.rounds.specs.Rounds.{Within}
 use Rattle.pair_step.specs.Pairs.{Ends, step_from}
 
--- r is the lowest of 1 to n with P; 0 where none has it
+-- none of 1 to n has P
+abbrev pub NoneHas : (ℕ → Type 0) → ℕ → Type 0
+NoneHas P n = (h : ℕ) → Within n h → P h → ⊥
+
+-- r is the lowest of 1 to n with P
 pub record Lowest (P : ℕ → Type 0) (n r : ℕ) : Type 0 where
-  pub there : (r ≡ 0) ⊎ (Within n r × P r)
-  pub low : (h : ℕ) → Within n h → P h → (1 ≤ r) × (r ≤ h)
+  pub there : Within n r
+  pub has : P r
+  pub low : (h : ℕ) → Within n h → P h → r ≤ h
 
 -- anchor i gives this score to an anchor at (v, x, c) of this weight: there is a step, and its candidate is the score
 abbrev pub GivesIn : Ends → List ℕ → List ℕ → ℕ → ℕ → ℕ → ℕ → ℕ → ℕ → Type 0

@@ -1,42 +1,29 @@
 // The anchor that gives a score: of those with a step to an anchor and exactly its score as their candidate, the lowest-numbered.
 #![tactic(auto)]
 
-ghost use Rattle.std.specs.Prelude.{◌≤◌, length};
+ghost use Rattle.std.specs.Prelude.{◌≤◌, length, MatchOption};
 ghost use Rattle.wire.specs.Sizes.{most_read};
 ghost use Rattle.pair_step.specs.Pairs.{RowFits, EndsFit};
-ghost use Rattle.score_giver.specs.Giver.{Lowest, GivesIn};
+ghost use Rattle.score_giver.specs.Giver.{NoneHas, Lowest, GivesIn};
 
 use candidates::gives;
+use pair_step::pair::{Ends, Start};
 use pair_step::step::step;
 
-// "the lowest-numbered anchor that gives its score", of anchors 1 to n, for an anchor of this score and weight at (v, x, c); 0 where none gives it.
-pub fn giver(
-    n: usize,
-    us: &[u32],
-    ys: &[u32],
-    ds: &[u32],
-    scores: &[u32],
-    row: &[u32],
-    score: u32,
-    v: u32,
-    x: u32,
-    c: u32,
-    weight: u32,
-) -> usize
-    requires ends_fit { EndsFit n (record { us = us.now; ys = ys.now; ds = ds.now }) }
-    requires row_fits { RowFits n (record { us = us.now; ys = ys.now; ds = ds.now }) row.now }
-    requires n_in_bounds { (n ≤ length scores.now) × (x ≤ most_read) × (c ≤ most_read) × (1 ≤ x) }
-    ensures { Lowest (GivesIn (record { us = us.now; ys = ys.now; ds = ds.now }) scores.now row.now score v x c weight) n result }
+// "the lowest-numbered anchor that gives its score", of the anchors with these scores, for an anchor of this score that starts there; None where none gives it.
+pub fn giver(ends: &Ends<'_>, scores: &[u32], row: &[u32], score: u32, to: Start) -> Option<usize>
+    requires ends_fit { EndsFit (length scores.now) ends.now }
+    requires row_fits { RowFits (length scores.now) ends.now row.now }
+    requires x_le_most_read { (to.x ≤ most_read) × (to.c ≤ most_read) × (1 ≤ to.x) }
+    ensures { MatchOption result (NoneHas (GivesIn ends.now scores.now row.now score to.v to.x to.c to.weight) (length scores.now))
+        (Lowest (GivesIn ends.now scores.now row.now score to.v to.x to.c to.weight) (length scores.now)) }
 {
-    let mut i: usize = 0;
-    while i < n {
-        let s = step(row, us[i], ys[i], ds[i], v, x, c);
-        if 0 < s {
-            if gives(scores[i], weight, s - 1, score) {
-                return i + 1;
+    for (i, given) in scores.iter().enumerate() {
+        if let Some(gaps) = step(row, ends.at(i), to) {
+            if gives(*given, to.weight, gaps, score) {
+                return Some(i + 1);
             }
         }
-        i += 1;
     }
-    0
+    None
 }

@@ -1,7 +1,6 @@
 -- "Checked by hand. Marked * are proved.": the marked cases, in document 01's order, and what each of them says of the definitions.
 use Rattle.std.specs.Prelude.{ℕ, ◌≡◌, List, [], ◌∷◌, ◌++◌, length}
 use Rattle.wire.specs.Numbers.{encode, number_at}
-use Rattle.wire.specs.declared.numbers.Number.TheVariants.{Value, Fault}
 use Rattle.wire.specs.Found.{good, fault}
 use Rattle.graph.specs.Content.{Graph}
 use Rattle.graph.specs.Good.{All}
@@ -33,8 +32,8 @@ pub data Case : Type 0 where
 
 -- what a case says of the definitions
 abbrev pub Holds : Case → Type 0
-Holds (number_is k bytes) = (encode k ≡ bytes) × (number_at bytes 0 ≡ Value k (record { at = length bytes }))
-Holds (number_refused bytes k) = number_at bytes 0 ≡ Fault k 0
+Holds (number_is k bytes) = (encode k ≡ bytes) × (number_at bytes 0 ≡ good (record { content = k; next = length bytes }))
+Holds (number_refused bytes k) = number_at bytes 0 ≡ fault k 0
 Holds (graph_accepted bytes) = (p : Parsed) × (graph_of bytes ≡ good p)
 Holds (graph_refused bytes k place) = graph_of bytes ≡ fault k place
 Holds (graph_more_refused bytes k place) = (b : ℕ) → graph_of (bytes ++ (b ∷ [])) ≡ fault k place

@@ -1,9 +1,10 @@
 -- The row of a vertex, in a setting that holds a graph with its tables: its loops' bounds, and what its entries say.
 -- Assumes nothing.
+use Rattle.std.specs.Prelude.{Option, Some, None}
 use Prim.Native.Nat.{ℕ, zero, suc, ◌+◌, ◌-◌, ◌*◌, ◌≤◌, ◌<◌}
 use mathlib.Core.Path.{◌≡◌, refl, sym, ap, ◌∙◌}
 use mathlib.Core.Logic.{◌≢◌}
-use mathlib.Core.List.{List, []}
+use mathlib.Core.List.{List}
 use native.Mathlib.Nat.{le_refl}
 use native.Mathlib.Omega.{arith}
 use lib.ListN.{length, get_or, set, take, drop, length-drop, length-set}
@@ -13,9 +14,8 @@ use Rattle.wire.specs.Sizes.{table_row, path_room, most_letters}
 use Rattle.rounds.specs.Rounds.{Within}
 use Rattle.rounds.specs.Place.{cell_place}
 use Rattle.rounds.specs.Table.{cell, entry}
-use Rattle.rounds.proofs.Upto.{within, within_none}
+use Rattle.rounds.proofs.Upto.{within}
 use Rattle.graph.specs.Content.{Graph, vertex_count, path_count}
-use Rattle.graph.specs.Good.{All, Next}
 use Rattle.anchors.specs.Anchors.{AnchorSet}
 use Rattle.cover.specs.Walks.{L}
 use Rattle.cover.specs.Cells.{vertex}
@@ -27,8 +27,9 @@ use Rattle.cover.proofs.RowLaws.{unknown-size, unknown-entry}
 use Rattle.cover.proofs.RowSteps.{sum-few, along-back}
 use Rattle.cover.proofs.CoverLaws.{row_is}
 use Rattle.cover.proofs.TablesThere.{closed-few}
-use Rattle.steps.specs.Setting.{Setting, length_in, below_in, back_in, path_from, backs_in, closed_entry, row_in, Holds, Prepared}
-use Rattle.steps.specs.Rowing.{SumsFit, BackFits, tables_of}
+use Rattle.steps.specs.Setting.{Setting, length_in, below_in, back_in, path_from, backs_in, closed_entry, row_in, Holds}
+use Rattle.pair_step.specs.Pairs.{Ends}
+use Rattle.steps.specs.Rowing.{SumsFit, BackFits, tables_of, with_anchors, Stands}
 use Rattle.steps.proofs.RowTurns.{backs_turn}
 
 less_one : (k : ℕ) → suc k - 1 ≡ k
@@ -133,47 +134,7 @@ module _ (s : Setting) (v i : ℕ) where
 
 -- ---- a setting's tables, without its anchors
 
--- they are prepared where the setting is
-pub tables_prepared : {s : Setting} → Prepared s → Prepared (tables_of s)
-unfolding All Next
-tables_prepared P =
-    let H = P.holds in
-    record {
-      g = P.g;
-      a = record { read = P.a.read; anchors = [] };
-      holds = record {
-        good = H.good;
-        good_anchors = record {
-          some_read = H.good_anchors.some_read;
-          few_read = H.good_anchors.few_read;
-          letters = H.good_anchors.letters;
-          few_anchors = omega arith;
-          each = tt;
-          rise = tt;
-        };
-        vertices = H.vertices;
-        paths_are = H.paths_are;
-        anchors_are = refl;
-        length_room = H.length_room;
-        lengths = H.lengths;
-        path_rooms = H.path_rooms;
-        paths = H.paths;
-        reach = H.reach;
-        distance = H.distance;
-        closed_room = H.closed_room;
-        closed = H.closed;
-        number_room = omega arith;
-        numbers = λ j w. absurd (within_none w);
-        us_room = omega arith;
-        us = λ j w. absurd (within_none w);
-        ys_room = omega arith;
-        ys = λ j w. absurd (within_none w);
-        ds_room = omega arith;
-        ds = λ j w. absurd (within_none w);
-      };
-    }
-
--- and give the same rows
+-- they give the same rows
 pub tables-row : (s : Setting) (v : ℕ) → row_in (tables_of s) v ≡ row_in s v
 unfolding row_in backs_in
 tables-row s v = ap (λ (row : List ℕ). set row (v - 1) (closed_entry (entry v s.closed))) (go s.k)
@@ -181,6 +142,15 @@ tables-row s v = ap (λ (row : List ℕ). set row (v - 1) (closed_entry (entry v
     go : (j : ℕ) → backs_in (tables_of s) v j (unknown s.n) ≡ backs_in s v j (unknown s.n)
     go zero = refl
     go (suc j) = ap (back_in s.lengths (path_from s.paths (suc j)) (cell cell_place v (suc j) s.reach) (cell cell_place v (suc j) s.distance)) (go j)
+
+-- a row over the tables alone is a row over the setting
+pub row_over : (t : Setting) (count : ℕ) (numbers : List ℕ) (ends : Ends) (v : ℕ) → row_in t v ≡ row_in (with_anchors t count numbers ends) v
+row_over t count numbers ends v = sym (tables-row t v) ∙ tables-row (with_anchors t count numbers ends) v
+
+-- and the row that stands for a vertex stands for it over the tables alone
+pub stands_over : (t : Setting) (u : Option ℕ) (row : List ℕ) (count : ℕ) (numbers : List ℕ) (ends : Ends) → Stands (with_anchors t count numbers ends) u row → Stands t u row
+stands_over t None row count numbers ends h = tt
+stands_over t (Some v) row count numbers ends h = h ∙ sym (row_over t count numbers ends v)
 
 -- ---- what the row says
 

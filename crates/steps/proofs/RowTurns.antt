@@ -2,7 +2,6 @@
 -- Assumes nothing.
 use Prim.Native.Nat.{ℕ, zero, suc, ◌+◌, ◌-◌, ◌≤◌, ◌<◌, ◌^◌}
 use mathlib.Core.Path.{◌≡◌, refl, ap, ◌∙◌}
-use mathlib.Core.Logic.{inl, inr}
 use mathlib.Core.List.{List, append-nil}
 use native.Mathlib.Omega.{arith}
 use native.Mathlib.Numerals.{add-one}
@@ -14,7 +13,7 @@ use Rattle.rounds.specs.Place.{cell_place}
 use Rattle.rounds.specs.Table.{cell}
 use Rattle.cover.specs.Row.{unknown, put}
 use Rattle.steps.specs.Setting.{Setting, below_in, back_in, backs_in, path_from, closed_entry, row_in}
-use Rattle.steps.specs.Rowing.{SumsFit, BackFits, Stands}
+use Rattle.steps.specs.Rowing.{SumsFit, BackFits}
 
 less_one : (k : ℕ) → suc k - 1 ≡ k
 less_one k = omega arith
@@ -130,8 +129,3 @@ pub row_made : (s : Setting) (v : ℕ) (row : List ℕ) (x : ℕ) → row ≡ ba
     → set row (v - 1) x ≡ row_in s v
 unfolding row_in
 row_made s v row x e h = rw (e, h)
-
--- the row that stands for v is the row of v
-pub stands_now : (s : Setting) (u v : ℕ) (row : List ℕ) → 1 ≤ v → u ≡ v → Stands s u row → row ≡ row_in s v
-stands_now s u v row l e (inl z) = absurd (omega arith)
-stands_now s u v row l e (inr h) = h ∙ ap (row_in s) e

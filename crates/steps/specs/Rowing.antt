@@ -1,6 +1,7 @@
 -- What the loops that make a row are given: that vertices have their entries and labels, and that the sums on the way fit.
-use Rattle.std.specs.Prelude.{ℕ, zero, suc, ◌+◌, ◌≤◌, ◌<◌, ◌^◌, ◌≡◌, ◌⊎◌, List, [], length, get_or}
+use Rattle.std.specs.Prelude.{ℕ, zero, suc, ◌+◌, ◌≤◌, ◌<◌, ◌^◌, ◌≡◌, List, [], length, get_or, Option, MatchOption}
 use Rattle.rounds.specs.Rounds.{Within}
+use Rattle.pair_step.specs.Pairs.{Ends}
 use Rattle.steps.specs.Setting.{Setting, below_in, row_in}
 
 -- back along a path from position a: every sum on the way, plus 1, is a number of 32 bits
@@ -34,6 +35,21 @@ tables n k lengths paths reach distance closed = record {
 abbrev pub tables_of : Setting → Setting
 tables_of s = tables s.n s.k s.lengths s.paths s.reach s.distance s.closed
 
--- the row of vertex u stands in the list; 0 for none
-abbrev pub Stands : Setting → ℕ → List ℕ → Type 0
-Stands s u row = (u ≡ 0) ⊎ (row ≡ row_in s u)
+-- a setting over the tables of t, with these anchors
+abbrev pub with_anchors : Setting → ℕ → List ℕ → Ends → Setting
+with_anchors t count numbers ends = record {
+  n = t.n;
+  k = t.k;
+  count = count;
+  lengths = t.lengths;
+  paths = t.paths;
+  reach = t.reach;
+  distance = t.distance;
+  closed = t.closed;
+  numbers = numbers;
+  ends = ends;
+}
+
+-- the row of a vertex stands in the list, if it is that of any
+abbrev pub Stands : Setting → Option ℕ → List ℕ → Type 0
+Stands s u row = MatchOption u (Unit {0}) (λ v. row ≡ row_in s v)

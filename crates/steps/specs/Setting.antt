@@ -30,21 +30,6 @@ pub record Setting : Type 0 where
   pub numbers : List ℕ
   pub ends : Ends
 
--- a setting, from the lists that a function is lent
-abbrev pub setting_of : ℕ → ℕ → ℕ → List ℕ → List ℕ → List ℕ → List ℕ → List ℕ → List ℕ → List ℕ → List ℕ → List ℕ → Setting
-setting_of n k count lengths paths reach distance closed numbers us ys ds = record {
-  n = n;
-  k = k;
-  count = count;
-  lengths = lengths;
-  paths = paths;
-  reach = reach;
-  distance = distance;
-  closed = closed;
-  numbers = numbers;
-  ends = record { us = us; ys = ys; ds = ds };
-}
-
 -- anchor number j of a setting
 abbrev pub anchor_of : Setting → ℕ → Anchor
 anchor_of s j = anchor_in s.numbers (j - 1)

@@ -1,3 +1,4 @@
--- The laws of the sweep: SweepHeld that it leaves the best scores, SweepTurns how its loop over rounds begins.
+-- The laws of the sweep: SweepHeld that it leaves the best scores, Swept the same whatever is held, SweepTurns how its loop over rounds begins.
 pub mod SweepHeld
 pub mod SweepTurns
+pub mod Swept

@@ -1,114 +1,36 @@
 // The sweep's entry, on the bytes of a graph file and an anchor file. The plain pass does not stand below this crate.
 #![tactic(auto)]
 
-ghost use Rattle.std.specs.Prelude.{◌≡◌, ◌≤◌, length};
-ghost use Rattle.wire.specs.Found.{good};
-ghost use Rattle.wire.specs.Sizes.{full_letters, full_scores, full_chain};
+ghost use Rattle.std.specs.Prelude.{◌≤◌, length};
+ghost use Rattle.wire.specs.Sizes.{full_scores, full_chain};
 ghost use Rattle.graph.specs.Content.{Graph};
-ghost use Rattle.graph.specs.Reading.{Parsed, graph_of};
 ghost use Rattle.anchors.specs.Anchors.{AnchorSet};
 ghost use Rattle.chain.specs.ChainEntries.{IsSweep};
-ghost use Rattle.placing_over.specs.Lying.{AnchorsLie, Over, SomeOver};
+ghost use Rattle.placing_over.specs.Lying.{Over, SomeOver};
 ghost use Rattle.placing_over.specs.Laying.{Laid};
-ghost use Rattle.placing.specs.Begun.{SomeRead};
 ghost use Rattle.placing.specs.Answer.{Answered};
 
-use placing::{ChainAnswer, acceptance, anchor_number_zeros, begin, refusal};
-use placing_over::over::{Placement, anchor_zeros};
-use steps::ends::fill_ends;
-use sweep_chain::sweep_chain;
-use tables_make::make::{cell_zeros, letter_zeros, vertex_zeros};
-use tables_ready::make_ready;
-use wire::sizes::ROW;
+use placing::ChainAnswer;
+use placing_files::place;
+use placing_over::over::{Placement, place_over};
+use steps::setting::Tables;
+use sweep_engine::Sweep;
 
-// The sweep over a graph whose tables are made: n vertices, k paths, `count` anchors.
+// The sweep over a graph whose tables are made, of `count` anchors.
 pub fn sweep_over(
-    n: usize,
-    k: usize,
+    tables: Tables<'_>,
     count: usize,
-    lengths: &[u32],
-    paths: &[u32],
-    reach: &[u32],
-    distance: &[u32],
-    closed: &[u32],
     numbers: &[u32],
     scores: &mut [u32],
     chain: &mut [u32],
 ) -> Placement
-    requires some_over { SomeOver n k count lengths.now paths.now reach.now distance.now closed.now numbers.now }
+    requires some_over { SomeOver tables count numbers.now }
     requires full_scores_in_bounds { (full_scores ≤ length scores.old) × (full_chain ≤ length chain.old) }
-    ensures { (g : Graph) → (a : AnchorSet) → Over g a n k count lengths.now paths.now reach.now distance.now closed.now numbers.now
+    ensures { (g : Graph) → (a : AnchorSet) → Over g a tables.entry count numbers.now
         → Laid IsSweep g a.anchors (record { scores = scores.old; chain = chain.old })
         (record { scores = scores.new; chain = chain.new }) result }
 {
-    let mut us = anchor_zeros();
-    let mut ys = anchor_zeros();
-    let mut ds = anchor_zeros();
-    fill_ends(numbers, count, &mut us, &mut ys, &mut ds);
-    let mut row = vertex_zeros();
-    sweep_chain(
-        n,
-        k,
-        count,
-        lengths,
-        paths,
-        reach,
-        distance,
-        closed,
-        numbers,
-        &us,
-        &ys,
-        &ds,
-        &mut row[..n],
-        scores,
-        chain,
-    )
-}
-
-// The sweep over an accepted graph file, of the `count` anchors in `numbers`. `letters` is room to work in.
-fn sweep_read(
-    graph: &[u8],
-    count: usize,
-    letters: &mut [u8],
-    numbers: &[u32],
-    scores: &mut [u32],
-    chain: &mut [u32],
-) -> Placement
-    requires some_read { SomeRead graph.now count numbers.now }
-    requires full_letters_in_bounds { (full_letters ≤ length letters.old) × (full_scores ≤ length scores.old) × (full_chain ≤ length chain.old) }
-    ensures { (p : Parsed) → (a : AnchorSet) → graph_of graph.now ≡ good p → AnchorsLie p.graph a count numbers.now
-        → Laid IsSweep p.graph a.anchors (record { scores = scores.old; chain = chain.old })
-        (record { scores = scores.new; chain = chain.new }) result }
-{
-    let mut lengths = vertex_zeros();
-    let mut paths = cell_zeros();
-    let mut reach = cell_zeros();
-    let mut distance = cell_zeros();
-    let mut closed = vertex_zeros();
-    let g = make_ready(
-        graph,
-        letters,
-        &mut lengths,
-        &mut paths,
-        &mut reach,
-        &mut distance,
-        &mut closed,
-    );
-    let n = g.vertices as usize;
-    let cells = ROW * n;
-    sweep_over(
-        n,
-        g.paths as usize,
-        count,
-        &lengths,
-        &paths,
-        &reach[..cells],
-        &distance[..cells],
-        &closed[..n],
-        numbers,
-        scores,
-        chain,
-    )
+    place_over::<Sweep>(tables, 0, count, numbers, scores, chain)
 }
 
 // The sweep: the scores of the anchors and the chain that is returned, with the rounds made; a refusal writes nothing.
@@ -118,19 +40,5 @@ pub fn sweep(graph: &[u8], file: &[u8], scores: &mut [u32], chain: &mut [u32]) -
         (record { scores = scores.new; chain = chain.new })
         result }
 {
-    let mut letters = letter_zeros();
-    let mut numbers = anchor_number_zeros();
-    let a = begin(graph, file, scores, chain, &mut letters, &mut numbers);
-    if a.number != 0 {
-        return refusal(a.number, a.file, a.place);
-    }
-    let t = sweep_read(
-        graph,
-        a.anchors as usize,
-        &mut letters,
-        &numbers,
-        scores,
-        chain,
-    );
-    acceptance(a.anchors, t)
+    place::<Sweep>(graph, file, scores, chain)
 }

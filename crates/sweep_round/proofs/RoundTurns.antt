@@ -22,9 +22,7 @@ use Rattle.anchors.specs.AnchorEntries.{anchor_in}
 use Rattle.pair_step.specs.Pairs.{EndsFit, RowFits, ScoresFit}
 use Rattle.steps.specs.Setting.{Setting, row_in, step_of, Holds}
 use Rattle.sweep_round.specs.Round.{best_in, rule_of, round_of}
-use Rattle.steps.specs.Rowing.{tables_of}
 use Rattle.steps.specs.Scores.{ScoresLow}
-use Rattle.steps.proofs.RowLaws.{tables-row}
 use Rattle.steps.proofs.SettingLaws.{AnchorFits, anchor-fits, ends_fit, row_fits, scores_fit}
 use Rattle.sweep_round.proofs.RoundLow.{low_keeps}
 
@@ -39,11 +37,8 @@ placed_fits {s} H j l =
     subst (λ (q : ℕ). AnchorFits s.n (anchor_in s.numbers q)) e (anchor-fits H (j + 1) (within (omega arith) (omega arith)))
 
 module _ {s : Setting} {g : Graph} {a : AnchorSet} (H : Holds s g a) {start : List ℕ} (low : ScoresLow s start) (j : ℕ) (l : j < s.count) {row : List ℕ}
-    (stands : row ≡ row_in (tables_of s) (anchor_in s.numbers j).v) {t : List ℕ} {b : Bool} (w : RoundInv s start j t b)
+    (turn_row : row ≡ row_in s (anchor_in s.numbers j).v) {t : List ℕ} {b : Bool} (w : RoundInv s start j t b)
   where
-    turn_row : row ≡ row_in s (anchor_in s.numbers j).v
-    turn_row = stands ∙ tables-row s (anchor_in s.numbers j).v
-
     turn_low : ScoresLow s t
     turn_low = rw w.is (sweep_keeps s.count (entry_step (rule_of s)) (ScoresLow s) (low_keeps H) j start (omega arith) low)
 

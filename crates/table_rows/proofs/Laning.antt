@@ -1,5 +1,5 @@
 -- A row of sixteen cells: filled lane by lane, and written into a table. Assumes nothing.
-use Prim.Native.Nat.{ℕ, zero, suc, ◌+◌, ◌-◌, ◌*◌, ◌≤◌, ◌<◌}
+use Prim.Native.Nat.{ℕ, zero, suc, ◌+◌, ◌-◌, ◌*◌, ◌%◌, ◌≤◌, ◌<◌}
 use mathlib.Core.Path.{◌≡◌, refl, sym, ap, ◌∙◌}
 use mathlib.Core.Logic.{◌≢◌, if_pos, if_neg}
 use mathlib.Core.List.{List}
@@ -61,16 +61,11 @@ pub brought-none : (x far there here : ℕ) → there ≢ here → brought x far
 unfolding brought
 brought-none x far there here d = if_neg (ℕ_discrete there here) d _ _
 
--- how far an entry is, by whether it is known
-pub far_none : (x : ℕ) → x ≡ 0 → how_far x ≡ 4294967295
+-- how far an entry is: less 1, and 0 wraps
+pub far-wraps : (x : ℕ) → x < 4294967296 → (x + 4294967295) % 4294967296 ≡ how_far x
 unfolding how_far
-far_none zero e = refl
-far_none (suc x) e = absurd (omega arith)
-
-pub far_some : (x : ℕ) → 1 ≤ x → x ≡ how_far x + 1
-unfolding how_far
-far_some zero l = absurd (omega arith)
-far_some (suc x) l = omega arith
+far-wraps zero l = refl
+far-wraps (suc d) l = omega arith
 
 -- the nearer of two entries, by how far they are
 pub closer_second : (x y : ℕ) → x < 4294967296 → how_far y < how_far x → closer x y ≡ y

@@ -2,3 +2,4 @@
 #![tactic(auto)]
 
 pub mod rows; // rows.rt: cells, and a row of sixteen of them
+pub mod in_edges; // in_edges.rt: the edges, listed by the vertex that they go into

@@ -8,25 +8,11 @@ ghost use Rattle.table_rows.specs.Lanes.{how_far, brought, put_row};
 
 use wire::sizes::ROW;
 
-// A number as a place.
-pub fn wide(x: u32) -> usize
-    ensures { result ≡ x }
-{
-    x as usize
-}
-
-// The greater of two reach entries.
-pub fn larger(x: u32, y: u32) -> u32
-    ensures { result ≡ max x y }
-{
-    if x < y { y } else { x }
-}
-
-// How far a distance entry is: 0 is unknown and further than any distance, d + 1 is the distance d.
+// How far a distance entry is: d + 1 is the distance d, and 0, unknown, wraps to the greatest number, further than any distance.
 fn how_far(x: u32) -> u32
     ensures { result ≡ how_far x }
 {
-    if x == 0 { u32::MAX } else { x - 1 }
+    x.wrapping_sub(1)
 }
 
 // The nearer of two distance entries.

@@ -6,7 +6,6 @@ ghost use Rattle.rounds.specs.Place.{cell_place};
 ghost use Rattle.rounds.specs.Table.{cell};
 ghost use Rattle.cover.specs.TableRounds.{table_of, home, known};
 
-use table_rows::rows::wide;
 use wire::sizes::{PATH_ROOM, ROW};
 
 // The entry at which vertex v starts: r is its reach on the path that starts at the place `at`.
@@ -17,7 +16,7 @@ fn home_cell(paths: &[u32], at: usize, r: u32, v: usize) -> u32
     if r == 0 {
         return 0;
     }
-    if wide(paths[at + wide(r) - 1]) == v {
+    if paths[at + r as usize - 1] as usize == v {
         1
     } else {
         0
@@ -35,18 +34,11 @@ pub fn start_distance(table: &mut [u32], reach: &[u32], paths: &[u32], n: usize)
     }
 }
 
-// The distance of an entry; 0 where it is unknown.
-pub fn less_one(x: u32) -> u32
-    ensures { result ≡ x - 1 }
-{
-    if x == 0 { 0 } else { x - 1 }
-}
-
-// The distances, of what the rounds left.
+// The distances, of what the rounds left: an entry less 1, or 0 where it is unknown.
 pub fn finish_distance(table: &mut [u32])
     ensures { table.new ≡ known table.old }
 {
-    for q in 0..table.len() {
-        table[q] = less_one(table[q]);
+    for entry in table.iter_mut() {
+        *entry = entry.saturating_sub(1);
     }
 }

@@ -6,126 +6,75 @@
 
 ghost use Rattle.std.specs.Prelude.{◌+◌, ◌*◌, ◌<◌, ◌≤◌, length};
 
+use caseinput::digest::DIGEST_START;
+use caseinput::entry::put_all;
 use std::io;
 use std::io::Write;
 use tables::{TablesAnswer, tables};
 use telling::{say, say_numbers};
-use texts::{part, say_filled};
+use texts::{part, parts, say_filled};
 
 // What every place of the buffers holds before a call.
 const BEFORE: u32 = 7;
 
-// The number at a place, or 0 past the end.
-fn at_place(table: &[u32], at: usize) -> u32 {
-    if at < table.len() { table[at] } else { 0 }
+// The three tables of a graph file.
+#[derive(Clone, Copy)]
+struct Tables<'a> {
+    reach: &'a [u32],
+    distance: &'a [u32],
+    closed: &'a [u32],
 }
 
 // Writes the row of vertex v + 1, k cells of each table.
-fn show_row(
-    to: &mut impl Write,
-    reach: &[u32],
-    distance: &[u32],
-    closed: &[u32],
-    v: u32,
-    k: u32,
-) -> io::Result<()> {
+fn show_row(to: &mut impl Write, made: Tables<'_>, v: u32, k: u32) -> io::Result<()> {
     let words: &[u8] = b" /|\n|";
     let row = v as usize;
-    say_numbers(to, reach, 16 * row, k as usize)?;
+    say_numbers(to, made.reach, 16 * row, k as usize)?;
     say(to, part(words, 0))?;
-    say_numbers(to, distance, 16 * row, k as usize)?;
+    say_numbers(to, made.distance, 16 * row, k as usize)?;
     say(to, part(words, 0))?;
-    say_numbers(to, closed, row, 1)?;
+    say_numbers(to, made.closed, row, 1)?;
     say(to, part(words, 1))
 }
 
 // Writes the rows of n vertices, k cells each.
-fn show_rows(
-    to: &mut impl Write,
-    reach: &[u32],
-    distance: &[u32],
-    closed: &[u32],
-    n: u32,
-    k: u32,
-) -> io::Result<()> {
+fn show_rows(to: &mut impl Write, made: Tables<'_>, n: u32, k: u32) -> io::Result<()> {
     for v in 0..n {
-        show_row(to, reach, distance, closed, v, k)?;
+        show_row(to, made, v, k)?;
     }
     Ok(())
 }
 
 // Whether every place is as it was.
 fn untouched(table: &[u32]) -> bool {
-    for i in 0..table.len() {
-        if table[i] != BEFORE {
-            return false;
-        }
-    }
-    true
+    table.iter().all(|x| *x == BEFORE)
 }
 
 // Whether every place of the three is as it was.
-fn all_untouched(reach: &[u32], distance: &[u32], closed: &[u32]) -> bool {
-    if !untouched(reach) {
-        return false;
-    }
-    if !untouched(distance) {
-        return false;
-    }
-    untouched(closed)
+fn all_untouched(made: Tables<'_>) -> bool {
+    untouched(made.reach) && untouched(made.distance) && untouched(made.closed)
 }
 
-// The product with 1,099,511,628,211, which is 2^40 + 435, without what passes 64 bits.
-fn times_prime(x: u64) -> u64 {
-    let low = x % 4294967296;
-    let high = x / 4294967296;
-    let top = (435 * high + 256 * low) % 4294967296;
-    std::num::wrapping_add_u64(4294967296 * top, 435 * low)
+// The first k places of a table, or all where it has no more.
+fn front(table: &[u32], k: usize) -> &[u32] {
+    &table[..k.min(table.len())]
 }
 
-// The digest with one byte more, by FNV-1a.
-fn with_byte(digest: u64, byte: u32) -> u64 {
-    times_prime(digest ^ (byte as u64))
-}
-
-// The digest with one number more, lowest byte first.
-fn with_number(digest: u64, x: u32) -> u64 {
-    let one = with_byte(digest, x % 256);
-    let two = with_byte(one, x / 256 % 256);
-    let three = with_byte(two, x / 65536 % 256);
-    with_byte(three, x / 16777216)
-}
-
-// The digest with the first k places of a table more.
-fn with_places(digest: u64, table: &[u32], k: usize) -> u64 {
-    let mut sum = digest;
-    for i in 0..k {
-        sum = with_number(sum, at_place(table, i));
-    }
-    sum
-}
-
-// The digest of the three tables.
-fn digest_of(reach: &[u32], distance: &[u32], closed: &[u32]) -> u64 {
-    let one = with_places(14695981039346656037, reach, 16384);
-    let two = with_places(one, distance, 16384);
-    with_places(two, closed, 1024)
+// The digest of the three tables, up to the full sizes.
+fn digest_of(made: Tables<'_>) -> u64 {
+    let one = put_all(DIGEST_START, front(made.reach, 16384));
+    let two = put_all(one, front(made.distance, 16384));
+    put_all(two, front(made.closed, 1024))
 }
 
 // Writes what the buffers hold.
-fn tell_places(
-    to: &mut impl Write,
-    a: TablesAnswer,
-    reach: &[u32],
-    distance: &[u32],
-    closed: &[u32],
-) -> io::Result<()> {
-    if all_untouched(reach, distance, closed) {
+fn tell_places(to: &mut impl Write, a: TablesAnswer, made: Tables<'_>) -> io::Result<()> {
+    if all_untouched(made) {
         return say(to, b" untouched\n");
     }
-    say_filled(to, b" digest #\n", &[digest_of(reach, distance, closed)])?;
+    say_filled(to, b" digest #\n", &[digest_of(made)])?;
     if a.vertices <= 8 {
-        show_rows(to, reach, distance, closed, a.vertices, a.paths)?;
+        show_rows(to, made, a.vertices, a.paths)?;
     }
     Ok(())
 }
@@ -148,17 +97,10 @@ fn say_answer(to: &mut impl Write, a: TablesAnswer) -> io::Result<()> {
 }
 
 // Writes a case's answer, and what the buffers hold.
-fn tell(
-    to: &mut impl Write,
-    name: &[u8],
-    a: TablesAnswer,
-    reach: &[u32],
-    distance: &[u32],
-    closed: &[u32],
-) -> io::Result<()> {
+fn tell(to: &mut impl Write, name: &[u8], a: TablesAnswer, made: Tables<'_>) -> io::Result<()> {
     say(to, name)?;
     say_answer(to, a)?;
-    tell_places(to, a, reach, distance, closed)
+    tell_places(to, a, made)
 }
 
 // Makes the tables of a file in lent buffers.
@@ -171,37 +113,35 @@ fn show_in(
     closed: &mut [u32],
 ) -> io::Result<()> {
     let a = tables(file, reach, distance, closed);
-    tell(to, name, a, reach, distance, closed)
+    tell(
+        to,
+        name,
+        a,
+        Tables {
+            reach,
+            distance,
+            closed,
+        },
+    )
+}
+
+// Makes the tables of a file in buffers of R, D and C places.
+fn show_sized<const R: usize, const D: usize, const C: usize>(
+    to: &mut impl Write,
+    name: &[u8],
+    file: &[u8],
+) -> io::Result<()>
+    requires { (R ≤ 16384) × (D ≤ 16384) × (C ≤ 1024) }
+{
+    let mut reach = [BEFORE; R];
+    let mut distance = [BEFORE; D];
+    let mut closed = [BEFORE; C];
+    show_in(to, name, file, &mut reach, &mut distance, &mut closed)
 }
 
 // Makes the tables of a file in buffers of full size.
 fn show(to: &mut impl Write, name: &[u8], file: &[u8]) -> io::Result<()> {
-    let mut reach = [BEFORE; 16384];
-    let mut distance = [BEFORE; 16384];
-    let mut closed = [BEFORE; 1024];
-    show_in(to, name, file, &mut reach, &mut distance, &mut closed)
-}
-
-// One place less in the reach table, in the distances, in the closed walks.
-fn show_short_reach(to: &mut impl Write, name: &[u8], file: &[u8]) -> io::Result<()> {
-    let mut reach = [BEFORE; 16383];
-    let mut distance = [BEFORE; 16384];
-    let mut closed = [BEFORE; 1024];
-    show_in(to, name, file, &mut reach, &mut distance, &mut closed)
-}
-
-fn show_short_distance(to: &mut impl Write, name: &[u8], file: &[u8]) -> io::Result<()> {
-    let mut reach = [BEFORE; 16384];
-    let mut distance = [BEFORE; 16383];
-    let mut closed = [BEFORE; 1024];
-    show_in(to, name, file, &mut reach, &mut distance, &mut closed)
-}
-
-fn show_short_closed(to: &mut impl Write, name: &[u8], file: &[u8]) -> io::Result<()> {
-    let mut reach = [BEFORE; 16384];
-    let mut distance = [BEFORE; 16384];
-    let mut closed = [BEFORE; 1023];
-    show_in(to, name, file, &mut reach, &mut distance, &mut closed)
+    show_sized::<16384, 16384, 1024>(to, name, file)
 }
 
 // Writes what two places of each buffer hold.
@@ -232,8 +172,8 @@ fn show_longer(to: &mut impl Write, name: &[u8], file: &[u8]) -> io::Result<()> 
 
 // Sets a place, where it is there.
 fn set_byte(out: &mut [u8], at: usize, b: u8) {
-    if at < out.len() {
-        out[at] = b;
+    if let Some(place) = out.get_mut(at) {
+        *place = b;
     }
 }
 
@@ -371,43 +311,26 @@ fn show_both_ways(to: &mut impl Write, name: &[u8], n: u32) -> io::Result<()>
     show_front(to, name, &bytes, end)
 }
 
-// Makes the tables of the file after a name.
-fn show_at(to: &mut impl Write, text: &[u8], name: usize, file: usize) -> io::Result<()> {
-    show(to, part(text, name), part(text, file))
+// Makes the tables of each file of a text, after its name.
+fn show_all(to: &mut impl Write, text: &[u8]) -> io::Result<()> {
+    for k in 0..parts(text) / 2 {
+        show(to, part(text, 2 * k), part(text, 2 * k + 1))?;
+    }
+    Ok(())
 }
 
-// Graphs of document 01, and small ones with cycles.
-fn accepted(to: &mut impl Write, text: &[u8]) -> io::Result<()> {
-    show_at(to, text, 0, 1)?;
-    show_at(to, text, 2, 3)?;
-    show_at(to, text, 4, 5)?;
-    show_at(to, text, 6, 7)?;
-    show_at(to, text, 8, 9)?;
-    show_at(to, text, 10, 11)?;
-    show_at(to, text, 12, 13)?;
-    show_at(to, text, 14, 15)
-}
-
-// Refused files.
-fn refused(to: &mut impl Write, text: &[u8]) -> io::Result<()> {
-    show_at(to, text, 0, 1)?;
-    show_at(to, text, 2, 3)?;
-    show_at(to, text, 4, 5)?;
-    show_at(to, text, 6, 7)?;
-    show_at(to, text, 8, 9)
-}
-
-// Buffers of other sizes.
+// Buffers of other sizes: one place less in the reach table, in the distances, in the closed walks; and more places.
 fn rooms(to: &mut impl Write, text: &[u8]) -> io::Result<()> {
-    show_short_reach(to, part(text, 0), part(text, 1))?;
-    show_short_distance(to, part(text, 2), part(text, 3))?;
-    show_short_closed(to, part(text, 4), part(text, 5))?;
+    show_sized::<16383, 16384, 1024>(to, part(text, 0), part(text, 1))?;
+    show_sized::<16384, 16383, 1024>(to, part(text, 2), part(text, 3))?;
+    show_sized::<16384, 16384, 1023>(to, part(text, 4), part(text, 5))?;
     show_longer(to, part(text, 6), part(text, 7))
 }
 
-// The cases before and after the rows of vertices with edges both ways.
+// The cases before and after the rows of vertices with edges both ways: graphs of document 01, and small ones with cycles; then refused files, and
+// buffers of other sizes.
 fn first_cases(to: &mut impl Write) -> io::Result<()> {
-    accepted(
+    show_all(
         to,
         b"G1|\x01\x04\x02AC\x01G\x02TT\x02CA\x04\x01\x02\x01\x03\x02\x04\x03\x04\x02\x03\x01\x02\x04\x03\x01\x03\x04|\
           G2|\x01\x03\x01A\x02CC\x01G\x03\x01\x02\x02\x03\x03\x02\x01\x03\x01\x02\x03|\
@@ -421,7 +344,7 @@ fn first_cases(to: &mut impl Write) -> io::Result<()> {
 }
 
 fn last_cases(to: &mut impl Write) -> io::Result<()> {
-    refused(
+    show_all(
         to,
         b"empty||\
           an anchor file|\x02\x01A\x00|\

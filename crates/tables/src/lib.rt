@@ -1,21 +1,21 @@
 // The tables of a graph: reach, distance and closed walks.
 #![tactic(auto)]
 
-ghost use Rattle.std.specs.Prelude.{◌≡◌, ◌*◌, ◌≤◌, length};
+ghost use Rattle.std.specs.Prelude.{◌≡◌, ◌≤◌, length};
 ghost use Rattle.wire.specs.Sizes.{full_table, full_closed};
 ghost use Rattle.graph.specs.Content.{Graph, path_count};
 ghost use Rattle.cover.specs.TableEntries.{room_for_tables};
-ghost use Rattle.table_rounds.specs.Held.{Holds};
-ghost use Rattle.tables_make.specs.Made.{Content, made};
+ghost use Rattle.tables_make.specs.Made.{Means};
 ghost use Rattle.tables.specs.Answer.{refusal_of, Tabled, Answered};
 
 use graph_read::read_graph;
-use tables_make::make::{
-    cell_zeros, letter_zeros, make_tables, number_zeros, path_zeros, vertex_zeros,
+use tables_make::content::GraphContent;
+use tables_make::make::make_tables;
+use wire::refusals::Refusal;
+use wire::sizes::{
+    FULL_CLOSED, FULL_COUNTS, FULL_EDGES, FULL_LENGTHS, FULL_LETTERS, FULL_PATHS, FULL_TABLE, ROW,
 };
-use wire::refusals::SMALL_BUFFER;
-use wire::sizes::{FULL_CLOSED, FULL_TABLE, ROW};
-use wire_lent::zero_rest_u32;
+use wire_lent::{zero_rest, zeros};
 
 // Number, file and place; then of an accepted file n, K and the rounds of the two tables.
 #[repr(C)]
@@ -49,55 +49,38 @@ fn refusal(number: u32, file: u32, place: u32) -> TablesAnswer
 fn roomy(reach: usize, distance: usize, closed: usize) -> bool
     ensures { result ≡ room_for_tables reach distance closed }
 {
-    if reach < FULL_TABLE {
-        return false;
-    }
-    if distance < FULL_TABLE {
-        return false;
-    }
-    FULL_CLOSED <= closed
+    FULL_TABLE <= reach && FULL_TABLE <= distance && FULL_CLOSED <= closed
 }
 
-// Makes the tables of content that lies in buffers, n vertices, m edges and k paths, and 0 in the unused places up to the full size.
+// Makes the tables of content with k paths that lies in buffers, and 0 in the unused places up to the full size.
 fn lay_tables(
-    n: u32,
-    m: u32,
+    content: &GraphContent<'_>,
     k: u32,
-    lengths: &[u32],
-    edges: &[u32],
-    paths: &[u32],
-    counts: &[u32],
     reach: &mut [u32],
     distance: &mut [u32],
     closed: &mut [u32],
 ) -> TablesAnswer
-    requires content { Content n m lengths.now edges.now paths.now counts.now }
     requires full_table_in_bounds { (full_table ≤ length reach.old) × (full_table ≤ length distance.old) × (full_closed ≤ length closed.old) }
-    ensures { (g : Graph) → Holds g n m lengths.now edges.now paths.now counts.now → k ≡ path_count g
+    ensures { (g : Graph) → Means g content.now → k ≡ path_count g
         → Tabled g (record { reach = reach.old; distance = distance.old; closed = closed.old })
         (record { reach = reach.new; distance = distance.new; closed = closed.new }) result }
 {
-    let rows = n as usize;
+    let rows = content.n;
     let cells = ROW * rows;
     let made = make_tables(
-        rows,
-        m as usize,
-        lengths,
-        edges,
-        paths,
-        counts,
+        content,
         &mut reach[..cells],
         &mut distance[..cells],
         &mut closed[..rows],
     );
-    zero_rest_u32(reach, cells, FULL_TABLE);
-    zero_rest_u32(distance, cells, FULL_TABLE);
-    zero_rest_u32(closed, rows, FULL_CLOSED);
+    zero_rest(reach, cells, FULL_TABLE);
+    zero_rest(distance, cells, FULL_TABLE);
+    zero_rest(closed, rows, FULL_CLOSED);
     TablesAnswer {
         number: 0,
         file: 0,
         place: 0,
-        vertices: n,
+        vertices: rows as u32,
         paths: k,
         reachrounds: made.reach,
         distancerounds: made.distance,
@@ -117,13 +100,13 @@ pub fn tables(
         result }
 {
     if !roomy(reach.len(), distance.len(), closed.len()) {
-        return refusal(SMALL_BUFFER, 0, 0);
+        return refusal(u32::from(Refusal::SmallBuffer), 0, 0);
     }
-    let mut letters = letter_zeros();
-    let mut lengths = vertex_zeros();
-    let mut edges = number_zeros();
-    let mut paths = cell_zeros();
-    let mut counts = path_zeros();
+    let mut letters: [u8; FULL_LETTERS] = zeros();
+    let mut lengths: [u32; FULL_LENGTHS] = zeros();
+    let mut edges: [u32; FULL_EDGES] = zeros();
+    let mut paths: [u32; FULL_PATHS] = zeros();
+    let mut counts: [u32; FULL_COUNTS] = zeros();
     let read = read_graph(
         file,
         &mut letters,
@@ -135,16 +118,13 @@ pub fn tables(
     if read.number != 0 {
         return refusal(read.number, read.file, read.place);
     }
-    lay_tables(
-        read.vertices,
-        read.edges,
-        read.paths,
-        &lengths,
-        &edges,
-        &paths,
-        &counts,
-        reach,
-        distance,
-        closed,
-    )
+    let content = GraphContent {
+        n: read.vertices as usize,
+        m: read.edges as usize,
+        lengths: &lengths,
+        edges: &edges,
+        paths: &paths,
+        counts: &counts,
+    };
+    lay_tables(&content, read.paths, reach, distance, closed)
 }

@@ -1,5 +1,4 @@
 -- The laws of making the tables: what the rounds' code leaves is what the tables mean.
 pub mod Same
 pub mod Meaning
-pub mod Rooms
 pub mod Holding

@@ -253,10 +253,10 @@ module _ {g : Graph} {n m : ℕ} {lengths edges paths counts : List ℕ} (H : Ho
       (l ∙ sym H.vertices)
       (back (λ n m. (v : ℕ) → Within n v → ClosedBy n m lengths edges v (entry v closed)) c)
 
--- ---- the lists, once they are made, are as long as they were
+-- ---- the same content, by other numbers that are the same
 
 pub holds_on : {g : Graph} {n m : ℕ} {lengths edges paths counts : List ℕ} (a b : ℕ) → a ≡ n → b ≡ m → Holds g n m lengths edges paths counts → Holds g a b lengths edges paths counts
-holds_on {g} {n} {m} {lengths} {edges} {paths} {counts} a b p q H = subst (λ (x : ℕ). Holds g a x lengths edges paths counts) (sym q) (subst (λ (x : ℕ). Holds g x m lengths edges paths counts) (sym p) H)
+holds_on a b p q H = rw (p, q) H
 
 pub linked_on : {edges : List ℕ} {n m : ℕ} (heads nexts : List ℕ) → length heads ≡ n → length nexts ≡ m → Held n m edges → Listed (target edges) n 0 m heads nexts → Linked edges heads nexts
 linked_on {edges} {n} {m} heads nexts p q h l = record {

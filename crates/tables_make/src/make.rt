@@ -1,19 +1,22 @@
 // Making the tables of a graph whose content lies in buffers.
-ghost use Rattle.std.specs.Prelude.{◌≡◌, ℕ, ◌*◌, ◌≤◌, length, get_or};
+ghost use Rattle.std.specs.Prelude.{◌≡◌, ℕ, ◌*◌, length, get_or};
 ghost use Rattle.wire.specs.Sizes.{table_row};
 ghost use Rattle.graph.specs.Content.{Graph};
-ghost use Rattle.table_rows.specs.HeldEdges.{Linked};
 ghost use Rattle.table_rounds.specs.Held.{Holds};
 ghost use Rattle.cover.specs.TableEntries.{IsTables};
-ghost use Rattle.tables_make.specs.Made.{zeros, Content, made};
+ghost use Rattle.tables_make.specs.Made.{Content, Means, made};
 
+use crate::content::GraphContent;
 use crate::targets::list_by_target;
 use closed_rounds::closed::closed_walks;
-use distance_rounds::settle_distance;
-use table_rounds::reach::settle_reach;
+use distance_rounds::{Distance, Walks};
+use table_rounds::by_rule::settle;
+use table_rounds::reach::Reach;
+use table_rows::in_edges::InEdges;
 use table_starts::distance::{finish_distance, start_distance};
 use table_starts::reach::start_reach;
 use wire::sizes::ROW;
+use wire_lent::zeros;
 
 // The rounds that made a reach table and a distance table.
 #[derive(Clone, Copy)]
@@ -22,69 +25,34 @@ pub struct TableRounds {
     pub distance: u32,
 }
 
-// Rooms of zeros, of the full sizes of letters, lengths, edges, paths and tables, and counts; and one for the edges' list.
-pub fn letter_zeros() -> [u8; 32768]
-    ensures { result ≡ zeros 32768 }
-{
-    [0u8; 32768]
-}
-
-pub fn number_zeros() -> [u32; 8192]
-    ensures { result ≡ zeros 8192 }
-{
-    [0u32; 8192]
-}
-
-pub fn path_zeros() -> [u32; 16]
-    ensures { result ≡ zeros 16 }
-{
-    [0u32; 16]
-}
-
-pub fn vertex_zeros() -> [u32; 1024]
-    ensures { result ≡ zeros 1024 }
-{
-    [0u32; 1024]
-}
-
-fn edge_zeros() -> [u32; 4096]
-    ensures { result ≡ zeros 4096 }
-{
-    [0u32; 4096]
-}
-
-pub fn cell_zeros() -> [u32; 16384]
-    ensures { result ≡ zeros 16384 }
-{
-    [0u32; 16384]
-}
-
 // Makes the tables, where the edges are listed by target. `scratch` is a table to work on.
 fn fill_tables(
+    edges: &InEdges<'_>,
     lengths: &[u32],
-    edges: &[u32],
     paths: &[u32],
     counts: &[u32],
-    heads: &[u32],
-    nexts: &[u32],
     scratch: &mut [u32],
     reach: &mut [u32],
     distance: &mut [u32],
     closed: &mut [u32],
 ) -> TableRounds
-    requires content { Content (length heads.now) (length nexts.now) lengths.now edges.now paths.now counts.now }
-    requires linked { Linked edges.now heads.now nexts.now }
-    requires scratch_len { length scratch.old ≡ table_row * length heads.now }
-    requires reach_len { (length reach.old ≡ table_row * length heads.now) × (length distance.old ≡ table_row * length heads.now) × (length closed.old ≡ length heads.now) }
-    ensures { (g : Graph) → Holds g (length heads.now) (length nexts.now) lengths.now edges.now paths.now counts.now → IsTables g (made reach.new distance.new closed.new result) }
+    requires content { Content edges.now.n edges.now.m lengths.now edges.now.list paths.now counts.now }
+    requires scratch_len { length scratch.old ≡ table_row * edges.now.n }
+    requires reach_len { (length reach.old ≡ table_row * edges.now.n) × (length distance.old ≡ table_row * edges.now.n) × (length closed.old ≡ edges.now.n) }
+    ensures { (g : Graph) → Holds g edges.now.n edges.now.m lengths.now edges.now.list paths.now counts.now → IsTables g (made reach.new distance.new closed.new result) }
 {
-    let n = heads.len();
+    let n = edges.vertices();
     start_reach(reach, paths, counts, n);
-    let a = settle_reach(reach, edges, heads, nexts);
+    let a = settle(&Reach, edges, reach);
     start_distance(distance, reach, paths, n);
-    let b = settle_distance(distance, reach, lengths, edges, heads, nexts);
+    let over = Distance {
+        lengths: lengths,
+        reach: reach,
+    };
+    let b = settle(&over, edges, distance);
     finish_distance(distance);
-    closed_walks(closed, scratch, lengths, edges, heads, nexts);
+    let walks = Walks { lengths: lengths };
+    closed_walks(closed, scratch, &walks, edges);
     TableRounds {
         reach: a,
         distance: b,
@@ -94,10 +62,7 @@ fn fill_tables(
 // Lists the edges by target, and makes the tables. `heads` has a place for each vertex, `nexts` one for each edge; `heads` is lent
 // with 0 everywhere.
 fn list_and_fill(
-    lengths: &[u32],
-    edges: &[u32],
-    paths: &[u32],
-    counts: &[u32],
+    content: &GraphContent<'_>,
     heads: &mut [u32],
     nexts: &mut [u32],
     scratch: &mut [u32],
@@ -105,44 +70,45 @@ fn list_and_fill(
     distance: &mut [u32],
     closed: &mut [u32],
 ) -> TableRounds
-    requires content { Content (length heads.old) (length nexts.old) lengths.now edges.now paths.now counts.now }
-    requires scratch_len { length scratch.old ≡ table_row * length heads.old }
-    requires reach_len { (length reach.old ≡ table_row * length heads.old) × (length distance.old ≡ table_row * length heads.old) × (length closed.old ≡ length heads.old) }
+    requires heads_len { (length heads.old ≡ content.now.n) × (length nexts.old ≡ content.now.m) }
+    requires scratch_len { length scratch.old ≡ table_row * content.now.n }
+    requires reach_len { (length reach.old ≡ table_row * content.now.n) × (length distance.old ≡ table_row * content.now.n) × (length closed.old ≡ content.now.n) }
     requires by_index { (q : ℕ) → get_or heads.old q 0 ≡ 0 }
-    ensures { (g : Graph) → Holds g (length heads.old) (length nexts.old) lengths.now edges.now paths.now counts.now → IsTables g (made reach.new distance.new closed.new result) }
+    ensures { (g : Graph) → Means g content.now → IsTables g (made reach.new distance.new closed.new result) }
 {
-    list_by_target(edges, heads, nexts);
+    let list = content.edges;
+    list_by_target(list, heads, nexts);
+    let edges = InEdges::new(list, heads, nexts);
     fill_tables(
-        lengths, edges, paths, counts, heads, nexts, scratch, reach, distance, closed,
+        &edges,
+        content.lengths,
+        content.paths,
+        content.counts,
+        scratch,
+        reach,
+        distance,
+        closed,
     )
 }
 
-// Makes the tables of content that lies in buffers, n vertices and m edges. Of the tables exactly the used places are lent.
+// Makes the tables of content that lies in buffers. Of the tables exactly the used places are lent.
 pub fn make_tables(
-    n: usize,
-    m: usize,
-    lengths: &[u32],
-    edges: &[u32],
-    paths: &[u32],
-    counts: &[u32],
+    content: &GraphContent<'_>,
     reach: &mut [u32],
     distance: &mut [u32],
     closed: &mut [u32],
 ) -> TableRounds
-    requires content { Content n m lengths.now edges.now paths.now counts.now }
-    requires reach_len { (length reach.old ≡ table_row * n) × (length distance.old ≡ table_row * n) × (length closed.old ≡ n) }
-    ensures { (g : Graph) → Holds g n m lengths.now edges.now paths.now counts.now → IsTables g (made reach.new distance.new closed.new result) }
+    requires reach_len { (length reach.old ≡ table_row * content.now.n) × (length distance.old ≡ table_row * content.now.n) × (length closed.old ≡ content.now.n) }
+    ensures { (g : Graph) → Means g content.now → IsTables g (made reach.new distance.new closed.new result) }
 {
-    let mut heads = vertex_zeros();
-    let mut nexts = edge_zeros();
-    let mut scratch = cell_zeros();
+    let n = content.n;
+    let mut heads: [u32; 1024] = zeros();
+    let mut nexts: [u32; 4096] = zeros();
+    let mut scratch: [u32; 16384] = zeros();
     list_and_fill(
-        lengths,
-        edges,
-        paths,
-        counts,
+        content,
         &mut heads[..n],
-        &mut nexts[..m],
+        &mut nexts[..content.m],
         &mut scratch[..ROW * n],
         reach,
         distance,

@@ -1,11 +1,12 @@
 -- What the reader of the graph file and the making of its tables leave. Assumes nothing.
-use Prim.Native.Nat.{ℕ, ◌*◌}
+use Prim.Native.Nat.{ℕ, ◌*◌, ◌≤◌}
 use mathlib.Core.Path.{◌≡◌, sym, ap, ◌∙◌}
 use mathlib.Core.List.{List, ◌++◌}
 use mathlib.Core.Bool.{true}
 use lib.ListN.{length, take, drop}
 use Rattle.wire.specs.Found.{good, accepted}
-use Rattle.wire.specs.Sizes.{table_row}
+use native.Mathlib.Omega.{arith}
+use Rattle.wire.specs.Sizes.{table_row, most_vertices}
 use Rattle.wire.proofs.NumberLaws.{Bytes}
 use Rattle.graph.specs.Content.{Graph, path_count}
 use Rattle.graph.specs.Reading.{Parsed, graph_of}
@@ -31,6 +32,9 @@ module _ (graph : List ℕ) (l after : Buffers) (r : GraphAnswer) (bytes : Bytes
   pub graph-held : Holds p.graph r.vertices r.edges after.lengths after.edges after.paths after.counts
   unfolding graph_accepts
   graph-held = accepted-holds graph l after r bytes full (graph_accepts graph l after r p e (full_roomy l full) A)
+
+  pub graph-few : r.vertices ≤ most_vertices
+  graph-few = omega (arith, graph-held.good.few_vertices, graph-held.vertices)
 
   pub graph-paths : path_count p.graph ≡ r.paths
   unfolding graph_accepts

@@ -8,8 +8,10 @@ ghost use Rattle.graph.specs.Reading.{Parsed, graph_of};
 ghost use Rattle.tables_ready.specs.Ready.{SomeGraph, Ready};
 
 use graph_read::{GraphAnswer, read_graph};
-use tables_make::make::{make_tables, number_zeros, path_zeros};
-use wire::sizes::ROW;
+use tables_make::content::GraphContent;
+use tables_make::make::make_tables;
+use wire::sizes::{FULL_COUNTS, FULL_EDGES, ROW};
+use wire_lent::zeros;
 
 // Reads an accepted graph file and makes its tables, at the front of their buffers. `letters` is room to work in.
 pub fn make_ready(
@@ -27,18 +29,21 @@ pub fn make_ready(
     ensures { (p : Parsed) → graph_of graph.now ≡ good p
         → Ready p.graph lengths.new paths.new reach.new distance.new closed.new result }
 {
-    let mut edges = number_zeros();
-    let mut counts = path_zeros();
+    let mut edges: [u32; FULL_EDGES] = zeros();
+    let mut counts: [u32; FULL_COUNTS] = zeros();
     let g = read_graph(graph, letters, lengths, &mut edges, paths, &mut counts);
     let n = g.vertices as usize;
     let cells = ROW * n;
+    let content = GraphContent {
+        n: n,
+        m: g.edges as usize,
+        lengths: lengths,
+        edges: &edges,
+        paths: paths,
+        counts: &counts,
+    };
     make_tables(
-        n,
-        g.edges as usize,
-        lengths,
-        &edges,
-        paths,
-        &counts,
+        &content,
         &mut reach[..cells],
         &mut distance[..cells],
         &mut closed[..n],

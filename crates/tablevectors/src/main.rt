@@ -7,8 +7,8 @@
 use std::io;
 use std::io::Write;
 use tables::{TablesAnswer, tables};
-use telling::{NUMBER_BEFORE, count_numbers, say, say_numbers};
-use texts::{part, say_filled};
+use telling::{NUMBER_BEFORE, count, say, say_numbers};
+use texts::{part, parts, say_filled};
 
 // Writes the answer.
 fn say_answer(to: &mut impl Write, answer: TablesAnswer) -> io::Result<()> {
@@ -27,73 +27,56 @@ fn say_answer(to: &mut impl Write, answer: TablesAnswer) -> io::Result<()> {
     )
 }
 
+// The three tables of a graph file.
+#[derive(Clone, Copy)]
+struct Tables<'a> {
+    reach: &'a [u32],
+    distance: &'a [u32],
+    closed: &'a [u32],
+}
+
 // Writes how many places of each table hold 0, and how many are as they were.
-fn say_places(
-    to: &mut impl Write,
-    reach: &[u32],
-    distance: &[u32],
-    closed: &[u32],
-) -> io::Result<()> {
+fn say_places(to: &mut impl Write, made: Tables<'_>) -> io::Result<()> {
     say_filled(
         to,
         b" zero # # # before # # #\n",
         &[
-            count_numbers(reach, 0),
-            count_numbers(distance, 0),
-            count_numbers(closed, 0),
-            count_numbers(reach, NUMBER_BEFORE),
-            count_numbers(distance, NUMBER_BEFORE),
-            count_numbers(closed, NUMBER_BEFORE),
+            count(made.reach, 0),
+            count(made.distance, 0),
+            count(made.closed, 0),
+            count(made.reach, NUMBER_BEFORE),
+            count(made.distance, NUMBER_BEFORE),
+            count(made.closed, NUMBER_BEFORE),
         ],
     )
 }
 
 // Writes the row of one vertex, k cells of each table, and its closed walk.
-fn say_row(
-    to: &mut impl Write,
-    reach: &[u32],
-    distance: &[u32],
-    closed: &[u32],
-    k: u32,
-    v: u32,
-) -> io::Result<()> {
+fn say_row(to: &mut impl Write, made: Tables<'_>, k: u32, v: u32) -> io::Result<()> {
     let words: &[u8] = b"reach| distance| closed walk|\n|";
     let row = v as usize;
     say(to, part(words, 0))?;
-    say_numbers(to, reach, 16 * row, k as usize)?;
+    say_numbers(to, made.reach, 16 * row, k as usize)?;
     say(to, part(words, 1))?;
-    say_numbers(to, distance, 16 * row, k as usize)?;
+    say_numbers(to, made.distance, 16 * row, k as usize)?;
     say(to, part(words, 2))?;
-    say_numbers(to, closed, row, 1)?;
+    say_numbers(to, made.closed, row, 1)?;
     say(to, part(words, 3))
 }
 
 // Writes the rows of n vertices.
-fn say_rows(
-    to: &mut impl Write,
-    reach: &[u32],
-    distance: &[u32],
-    closed: &[u32],
-    n: u32,
-    k: u32,
-) -> io::Result<()> {
+fn say_rows(to: &mut impl Write, made: Tables<'_>, n: u32, k: u32) -> io::Result<()> {
     for v in 0..n {
-        say_row(to, reach, distance, closed, k, v)?;
+        say_row(to, made, k, v)?;
     }
     Ok(())
 }
 
 // Writes the answer, and what the tables hold.
-fn tell(
-    to: &mut impl Write,
-    answer: TablesAnswer,
-    reach: &[u32],
-    distance: &[u32],
-    closed: &[u32],
-) -> io::Result<()> {
+fn tell(to: &mut impl Write, answer: TablesAnswer, made: Tables<'_>) -> io::Result<()> {
     say_answer(to, answer)?;
-    say_places(to, reach, distance, closed)?;
-    say_rows(to, reach, distance, closed, answer.vertices, answer.paths)
+    say_places(to, made)?;
+    say_rows(to, made, answer.vertices, answer.paths)
 }
 
 // Makes the tables of a file of a text, and writes them.
@@ -103,17 +86,24 @@ fn table_case(to: &mut impl Write, text: &[u8], name: usize, file: usize) -> io:
     let mut closed = [NUMBER_BEFORE; 1024];
     say(to, part(text, name))?;
     let answer = tables(part(text, file), &mut reach, &mut distance, &mut closed);
-    tell(to, answer, &reach, &distance, &closed)
+    tell(
+        to,
+        answer,
+        Tables {
+            reach: &reach,
+            distance: &distance,
+            closed: &closed,
+        },
+    )
 }
 
 // The cases of a text, after its heading: a name and a file for each, both ended by `|`.
 fn cases_of(to: &mut impl Write, text: &[u8]) -> io::Result<()> {
     say(to, part(text, 0))?;
-    table_case(to, text, 1, 2)?;
-    table_case(to, text, 3, 4)?;
-    table_case(to, text, 5, 6)?;
-    table_case(to, text, 7, 8)?;
-    table_case(to, text, 9, 10)
+    for k in 0..parts(text) / 2 {
+        table_case(to, text, 2 * k + 1, 2 * k + 2)?;
+    }
+    Ok(())
 }
 
 // The tables of each graph, and a refused file. (G2 has labels A, CC, G; edges 1-2, 2-3, 3-2; one path 1 2 3.)

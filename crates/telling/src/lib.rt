@@ -2,8 +2,10 @@
 // the writer's own, passed on; what was written before it is written.
 #![tactic(auto)]
 
-ghost use Rattle.std.specs.Prelude.{◌≡◌};
-ghost use Rattle.telling.specs.Counts.{times_in};
+ghost use Rattle.std.specs.Prelude.{◌≡◌, ◌++◌, OnOk, take, drop, count_by};
+ghost use Rattle.std.specs.Fmt.{decimal};
+ghost use Rattle.std.specs.Io.KnownBytes.{Appends};
+ghost use Rattle.telling.specs.Said.{byte_text, bytes_text, numbers_text};
 
 use std::io;
 use std::io::Write;
@@ -15,58 +17,52 @@ pub const BYTE_BEFORE: u8 = 0xEE;
 pub const NUMBER_BEFORE: u32 = 4294967295;
 
 // Writes text.
-pub fn say(to: &mut impl Write, text: &[u8]) -> io::Result<()> {
+pub fn say<W: Write>(to: &mut W, text: &[u8]) -> io::Result<()>
+    ensures { OnOk result (Appends (W.contents to.old) (W.contents to.new) text.now) }
+{
     to.write_all(text)
 }
 
 // Writes text and a number.
-pub fn say_number(to: &mut impl Write, text: &[u8], x: u64) -> io::Result<()> {
+pub fn say_number<W: Write>(to: &mut W, text: &[u8], x: u64) -> io::Result<()>
+    ensures { OnOk result (Appends (W.contents to.old) (W.contents to.new) (text.now ++ decimal x)) }
+{
     say(to, text)?;
     write!(to, "{x}")
 }
 
+// Writes a byte's two hexadecimal digits.
+#[tactic(auto, using(std::proofs::lemmas::Fmt::hex_byte))]
+fn say_byte<W: Write>(to: &mut W, b: u8) -> io::Result<()>
+    ensures { OnOk result (Appends (W.contents to.old) (W.contents to.new) (byte_text b)) }
+{
+    write!(to, " {b:02x}")
+}
+
 // Writes the first n bytes as hexadecimal digits.
-pub fn say_bytes(to: &mut impl Write, bytes: &[u8], n: usize) -> io::Result<()> {
-    for b in bytes.iter().take(n) {
-        write!(to, " {b:02x}")?;
+pub fn say_bytes<W: Write>(to: &mut W, bytes: &[u8], n: usize) -> io::Result<()>
+    ensures { OnOk result (Appends (W.contents to.old) (W.contents to.new) (bytes_text (take n bytes.now))) }
+{
+    for b in &bytes[..n.min(bytes.len())] {
+        say_byte(to, *b)?;
     }
     Ok(())
 }
 
 // Writes the numbers of n places from a place on.
-pub fn say_numbers(to: &mut impl Write, numbers: &[u32], from: usize, n: usize) -> io::Result<()> {
-    for x in numbers.iter().skip(from).take(n) {
+pub fn say_numbers<W: Write>(to: &mut W, numbers: &[u32], from: usize, n: usize) -> io::Result<()>
+    ensures { OnOk result (Appends (W.contents to.old) (W.contents to.new) (numbers_text (take n (drop from numbers.now)))) }
+{
+    let rest = &numbers[from.min(numbers.len())..];
+    for x in &rest[..n.min(rest.len())] {
         write!(to, " {x}")?;
     }
     Ok(())
 }
 
-// How many bytes are b.
-pub fn count_bytes(bytes: &[u8], b: u8) -> u64
-    ensures { result ≡ times_in b bytes.now }
+// How many elements are x.
+pub fn count<T: PartialEq + Copy>(xs: &[T], x: T) -> u64
+    ensures { result ≡ count_by (λ y. T.eq y x) xs.now }
 {
-    let mut n: u64 = 0;
-    let mut i: usize = 0;
-    while i < bytes.len() {
-        if bytes[i] == b {
-            n += 1;
-        }
-        i += 1;
-    }
-    n
-}
-
-// How many numbers are x.
-pub fn count_numbers(numbers: &[u32], x: u32) -> u64
-    ensures { result ≡ times_in x numbers.now }
-{
-    let mut n: u64 = 0;
-    let mut i: usize = 0;
-    while i < numbers.len() {
-        if numbers[i] == x {
-            n += 1;
-        }
-        i += 1;
-    }
-    n
+    xs.iter().filter(|y| **y == x).count() as u64
 }

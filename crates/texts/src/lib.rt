@@ -2,8 +2,10 @@
 // (A program's check grows with its texts much faster than with their bytes: one text for many cases keeps it short.)
 #![tactic(auto)]
 
-ghost use Rattle.std.specs.Prelude.{◌≡◌};
+ghost use Rattle.std.specs.Prelude.{◌≡◌, OnOk, drop};
+ghost use Rattle.std.specs.Io.KnownBytes.{Appends};
 ghost use Rattle.telling.specs.Counts.{times_in};
+ghost use Rattle.texts.specs.Filled.{first_text, filled};
 ghost use Rattle.texts.specs.Parts.{part_of};
 
 use std::io;
@@ -13,10 +15,11 @@ use std::io::Write;
 pub const MARK: u8 = b'|';
 
 // How many parts a text has.
+#[tactic(auto, using(telling::proofs::Counting::count_is_times))]
 pub fn parts(text: &[u8]) -> usize
     ensures { result ≡ times_in 124 text.now }
 {
-    telling::count_bytes(text, MARK) as usize
+    telling::count(text, MARK) as usize
 }
 
 // The part of a text after k marks, up to the next; the empty part where there is none.
@@ -25,42 +28,41 @@ pub fn part(text: &[u8], k: usize) -> &[u8]
 {
     let mut left = k;
     let mut start: usize = 0;
-    let mut i: usize = 0;
-    while i < text.len() {
-        if text[i] == MARK {
+    for (i, b) in text.iter().enumerate() {
+        if *b == MARK {
             if left == 0 {
                 return &text[start..i];
             }
             left -= 1;
             start = i + 1;
         }
-        i += 1;
     }
-    &text[..0]
+    &[]
 }
 
 // Writes the number at a place, where it is there.
-fn say_place(to: &mut impl Write, numbers: &[u64], at: usize) -> io::Result<()> {
-    if at < numbers.len() {
-        let x = numbers[at];
-        write!(to, "{x}")?;
+fn say_place<W: Write>(to: &mut W, numbers: &[u64], at: usize) -> io::Result<()>
+    ensures { OnOk result (Appends (W.contents to.old) (W.contents to.new) (first_text (drop at numbers.now))) }
+{
+    match numbers.get(at) {
+        Some(x) => write!(to, "{x}"),
+        None => Ok(()),
     }
-    Ok(())
 }
 
 // Writes a text, with the next of the numbers in place of each `#`. The only error is the writer's own, passed on.
-pub fn say_filled(to: &mut impl Write, text: &[u8], numbers: &[u64]) -> io::Result<()> {
+pub fn say_filled<W: Write>(to: &mut W, text: &[u8], numbers: &[u64]) -> io::Result<()>
+    ensures { OnOk result (Appends (W.contents to.old) (W.contents to.new) (filled text.now numbers.now)) }
+{
     let mut at: usize = 0;
     let mut start: usize = 0;
-    let mut i: usize = 0;
-    while i < text.len() {
-        if text[i] == b'#' {
+    for (i, b) in text.iter().enumerate() {
+        if *b == b'#' {
             to.write_all(&text[start..i])?;
             say_place(to, numbers, at)?;
             at += 1;
             start = i + 1;
         }
-        i += 1;
     }
     to.write_all(&text[start..])
 }

@@ -3,8 +3,8 @@ use graph_read::{GraphAnswer, read_graph};
 use graph_write::{WrittenAnswer, write_graph};
 use std::io;
 use std::io::Write;
-use telling::{BYTE_BEFORE, NUMBER_BEFORE, count_bytes, count_numbers, say, say_bytes};
-use texts::{part, say_filled};
+use telling::{BYTE_BEFORE, NUMBER_BEFORE, count, say, say_bytes};
+use texts::{part, parts, say_filled};
 
 // Writes the reader's answer.
 fn say_answer(to: &mut impl Write, answer: GraphAnswer) -> io::Result<()> {
@@ -23,62 +23,35 @@ fn say_answer(to: &mut impl Write, answer: GraphAnswer) -> io::Result<()> {
     )
 }
 
+// The buffers that hold a graph's content.
+#[derive(Clone, Copy)]
+struct Content<'a> {
+    letters: &'a [u8],
+    lengths: &'a [u32],
+    edges: &'a [u32],
+    paths: &'a [u32],
+    counts: &'a [u32],
+}
+
 // Writes after a word how many places of each buffer hold a byte, or a number.
-fn say_count(
-    to: &mut impl Write,
-    word: &[u8],
-    b: u8,
-    x: u32,
-    letters: &[u8],
-    lengths: &[u32],
-    edges: &[u32],
-    paths: &[u32],
-    counts: &[u32],
-) -> io::Result<()> {
+fn say_count(to: &mut impl Write, word: &[u8], b: u8, x: u32, held: Content<'_>) -> io::Result<()> {
     say_filled(
         to,
         word,
         &[
-            count_bytes(letters, b),
-            count_numbers(lengths, x),
-            count_numbers(edges, x),
-            count_numbers(paths, x),
-            count_numbers(counts, x),
+            count(held.letters, b),
+            count(held.lengths, x),
+            count(held.edges, x),
+            count(held.paths, x),
+            count(held.counts, x),
         ],
     )
 }
 
 // Writes how many places of each buffer hold 0, and how many are as they were.
-fn say_places(
-    to: &mut impl Write,
-    letters: &[u8],
-    lengths: &[u32],
-    edges: &[u32],
-    paths: &[u32],
-    counts: &[u32],
-) -> io::Result<()> {
-    say_count(
-        to,
-        b" zero # # # # #",
-        0,
-        0,
-        letters,
-        lengths,
-        edges,
-        paths,
-        counts,
-    )?;
-    say_count(
-        to,
-        b" before # # # # #\n",
-        BYTE_BEFORE,
-        NUMBER_BEFORE,
-        letters,
-        lengths,
-        edges,
-        paths,
-        counts,
-    )
+fn say_places(to: &mut impl Write, held: Content<'_>) -> io::Result<()> {
+    say_count(to, b" zero # # # # #", 0, 0, held)?;
+    say_count(to, b" before # # # # #\n", BYTE_BEFORE, NUMBER_BEFORE, held)
 }
 
 // Writes the writer's answer, and the bytes that it wrote.
@@ -93,44 +66,28 @@ fn tell_written(to: &mut impl Write, answer: WrittenAnswer, out: &[u8]) -> io::R
 }
 
 // Writes the content back, into an output of 31 bytes, which is what G1 takes.
-fn write_back(
-    to: &mut impl Write,
-    read: GraphAnswer,
-    letters: &[u8],
-    lengths: &[u32],
-    edges: &[u32],
-    paths: &[u32],
-    counts: &[u32],
-) -> io::Result<()> {
+fn write_back(to: &mut impl Write, read: GraphAnswer, held: Content<'_>) -> io::Result<()> {
     let mut out = [BYTE_BEFORE; 31];
     let answer = write_graph(
         read.vertices,
         read.edges,
         read.paths,
-        letters,
-        lengths,
-        edges,
-        paths,
-        counts,
+        held.letters,
+        held.lengths,
+        held.edges,
+        held.paths,
+        held.counts,
         &mut out,
     );
     tell_written(to, answer, &out)
 }
 
 // What the reader made is written, and written back where it is accepted.
-fn tell(
-    to: &mut impl Write,
-    answer: GraphAnswer,
-    letters: &[u8],
-    lengths: &[u32],
-    edges: &[u32],
-    paths: &[u32],
-    counts: &[u32],
-) -> io::Result<()> {
+fn tell(to: &mut impl Write, answer: GraphAnswer, held: Content<'_>) -> io::Result<()> {
     say_answer(to, answer)?;
-    say_places(to, letters, lengths, edges, paths, counts)?;
+    say_places(to, held)?;
     if answer.number == 0 {
-        write_back(to, answer, letters, lengths, edges, paths, counts)?;
+        write_back(to, answer, held)?;
     }
     Ok(())
 }
@@ -164,21 +121,26 @@ fn graph_case(to: &mut impl Write, text: &[u8], name: usize, file: usize) -> io:
         &mut paths,
         &mut counts,
     );
-    tell(to, answer, &letters, &lengths, &edges, &paths, &counts)
+    tell(
+        to,
+        answer,
+        Content {
+            letters: &letters,
+            lengths: &lengths,
+            edges: &edges,
+            paths: &paths,
+            counts: &counts,
+        },
+    )
 }
 
 // The cases of a text, after its heading: a name and a file for each.
 fn cases_of(to: &mut impl Write, text: &[u8]) -> io::Result<()> {
     say(to, part(text, 0))?;
-    graph_case(to, text, 1, 2)?;
-    graph_case(to, text, 3, 4)?;
-    graph_case(to, text, 5, 6)?;
-    graph_case(to, text, 7, 8)?;
-    graph_case(to, text, 9, 10)?;
-    graph_case(to, text, 11, 12)?;
-    graph_case(to, text, 13, 14)?;
-    graph_case(to, text, 15, 16)?;
-    graph_case(to, text, 17, 18)
+    for k in 0..parts(text) / 2 {
+        graph_case(to, text, 2 * k + 1, 2 * k + 2)?;
+    }
+    Ok(())
 }
 
 // All graph files: those that "Checked by hand" gives by their bytes, and the graphs of the other cases. (G2 has labels A, CC, G; edges 1-2, 2-3, 3-2;

@@ -2,8 +2,9 @@
 use std::io;
 use std::io::Write;
 use telling::{say, say_bytes};
-use texts::{part, say_filled};
-use wire::numbers::{Cursor, Number, group_count, put_number, read_number};
+use texts::{part, parts, say_filled};
+use wire::numbers::{Cursor, group_count, put_number, read_number};
+use wire::refusals::Fault;
 
 // Writes how a number is written.
 fn write_case(to: &mut impl Write, x: u32) -> io::Result<()> {
@@ -17,13 +18,17 @@ fn write_case(to: &mut impl Write, x: u32) -> io::Result<()> {
 }
 
 // Writes what was found where bytes are read as a number.
-fn say_found(to: &mut impl Write, found: Number) -> io::Result<()> {
+fn say_found(to: &mut impl Write, found: Result<(u32, Cursor), Fault>) -> io::Result<()> {
     match found {
-        Number::Value(value, next) => {
+        Ok((value, next)) => {
             say_filled(to, b": value # next #\n", &[value as u64, next.at as u64])?;
         }
-        Number::Fault(number, place) => {
-            say_filled(to, b": refused # place #\n", &[number as u64, place as u64])?;
+        Err(fault) => {
+            say_filled(
+                to,
+                b": refused # place #\n",
+                &[u32::from(fault.refusal) as u64, fault.place as u64],
+            )?;
         }
     }
     Ok(())
@@ -39,22 +44,21 @@ fn read_case(to: &mut impl Write, bytes: &[u8]) -> io::Result<()> {
 // The numbers of "Checked by hand", and the greatest one written.
 fn write_cases(to: &mut impl Write) -> io::Result<()> {
     say(to, b"numbers\n")?;
-    write_case(to, 127)?;
-    write_case(to, 128)?;
-    write_case(to, 4294967295)
-}
-
-// The bytes of a text.
-fn read_cases(to: &mut impl Write, text: &[u8]) -> io::Result<()> {
-    read_case(to, part(text, 0))?; // 127
-    read_case(to, part(text, 1))?; // 128
-    read_case(to, part(text, 2))?; // not in the fewest bytes
-    read_case(to, part(text, 3))?; // the greatest
-    read_case(to, part(text, 4))?; // too great
+    for x in &[127, 128, 4294967295] {
+        write_case(to, *x)?;
+    }
     Ok(())
 }
 
-// All numbers.
+// The bytes of each part of a text.
+fn read_cases(to: &mut impl Write, text: &[u8]) -> io::Result<()> {
+    for k in 0..parts(text) {
+        read_case(to, part(text, k))?;
+    }
+    Ok(())
+}
+
+// All numbers. Those that are read, in order: 127; 128; not in the fewest bytes; the greatest; too great.
 pub fn number_cases(to: &mut impl Write) -> io::Result<()> {
     write_cases(to)?;
     read_cases(

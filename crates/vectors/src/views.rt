@@ -20,7 +20,7 @@ fn view_case<'a>(
         &[
             number as u64,
             named as u64,
-            seen.file as u64,
+            u32::from(seen.file) as u64,
             seen.start as u64,
             seen.len as u64,
         ],

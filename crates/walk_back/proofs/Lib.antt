@@ -1,2 +1,2 @@
--- The laws that the proof of the way back cites.
+-- The law of the way back over a last edge.
 pub mod WalkBack

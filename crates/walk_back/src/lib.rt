@@ -4,38 +4,23 @@
 ghost use Rattle.std.specs.Prelude.{◌≡◌, ◌+◌, ◌-◌, ◌*◌, ◌≤◌, ◌<◌, length};
 ghost use Rattle.wire.specs.Sizes.{table_row};
 ghost use Rattle.rounds.specs.Rounds.{Within};
-ghost use Rattle.table_rows.specs.HeldEdges.{Linked};
 ghost use Rattle.table_rounds.specs.Held.{Fitting};
 ghost use Rattle.walk_back.specs.Back.{back_by};
 
-use table_rows::rows::{further, nearer, wide};
-use table_starts::distance::less_one;
-use wire::sizes::ROW;
+use distance_rounds::Walks;
+use table_rounds::by_rule::gathered;
+use table_rows::in_edges::InEdges;
 
 // The least walk from the vertex of column i (counted from 0) to v over a last edge, where the table has the walks to that edge.
-pub fn walk_back(
-    table: &[u32],
-    lengths: &[u32],
-    edges: &[u32],
-    heads: &[u32],
-    nexts: &[u32],
-    v: usize,
-    i: usize,
-) -> u32
-    requires linked { Linked edges.now heads.now nexts.now }
-    requires heads_in_bounds { length heads.now ≤ length lengths.now }
-    requires table_len { length table.now ≡ table_row * length heads.now }
-    requires fitting { Fitting (length heads.now) lengths.now table.now }
-    requires within { Within (length heads.now) v }
+pub fn walk_back(walks: &Walks<'_>, edges: &InEdges<'_>, table: &[u32], v: usize, i: usize) -> u32
+    requires labelled { edges.now.n ≤ length walks.now.lengths.now }
+    requires table_len { length table.now ≡ table_row * edges.now.n }
+    requires fitting { Fitting edges.now.n walks.now.lengths.now table.now }
+    requires within { Within edges.now.n v }
     requires i_lt_table_row { i < table_row }
-    ensures { result ≡ back_by lengths.now edges.now table.now v (i + 1) (length nexts.now) - 1 }
+    ensures { result ≡ back_by walks.now.lengths.now edges.now.list table.now v (i + 1) edges.now.m - 1 }
 {
-    let mut best = 0;
-    let mut e = wide(heads[v - 1]);
-    while e != 0 {
-        let u = wide(edges[2 * (e - 1)]);
-        best = nearer(best, further(table[ROW * (u - 1) + i], lengths[u - 1]));
-        e = wide(nexts[e - 1]);
-    }
-    less_one(best)
+    let unknown = [0u32; 16];
+    let back = gathered(walks, edges, table, unknown, v);
+    back[i].saturating_sub(1)
 }

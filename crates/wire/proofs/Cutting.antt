@@ -6,12 +6,9 @@ use mathlib.Core.Logic.{◌⊎◌, inl, inr}
 use mathlib.Core.List.{List}
 use lib.ListN.{length, take}
 use borrow.Author.Tests.{eq-eqb}
-use Rattle.wire.specs.Numbers.{number_at}
+use Rattle.wire.specs.Numbers.{number_at, on_number, number}
 use Rattle.wire.specs.Refusals.{bytes_end}
-use Rattle.wire.specs.Found.{Found, good, fault, and_then, on_number, number, refuse}
-use Rattle.wire.specs.declared.numbers.Cursor.{Cursor}
-use Rattle.wire.specs.declared.numbers.Number.{Number}
-use Rattle.wire.specs.declared.numbers.Number.TheVariants.{Value}
+use Rattle.wire.specs.Found.{Found, good, fault, and_then, refuse, Part}
 use Rattle.wire.proofs.NumberLaws.{number_cut}
 
 -- a finding in the first j bytes is b, and Q holds, or it is the end of the bytes
@@ -32,12 +29,12 @@ cut_then {j} {Q} {b} x a go h f =
       | inr k ↦ subst (λ (y : Found _). CutTo j Q b (and_then y go)) (sym k) cut_end
     ]
 
-pub cut_number : {B : Type 0} {Q : Type 0} {b : B} (s : List ℕ) (at j x : ℕ) (c : Cursor) (go : ℕ → ℕ → Found B) → j ≤ length s
-    → number_at s at ≡ Value x c → (c.at ≤ j → CutTo j Q b (go x c.at)) → CutTo j Q b (number (take j s) at go)
+pub cut_number : {B : Type 0} {Q : Type 0} {b : B} (s : List ℕ) (at j x : ℕ) (c : ℕ) (go : ℕ → ℕ → Found B) → j ≤ length s
+    → number_at s at ≡ good (record { content = x; next = c }) → (c ≤ j → CutTo j Q b (go x c)) → CutTo j Q b (number (take j s) at go)
 cut_number {Q} {b} s at j x c go h e f =
     elim (number_cut s at x c j h e) [
-      | inl k ↦ subst (λ (y : Number). CutTo j Q b (on_number y go)) (sym k.1) (f k.0)
-      | inr k ↦ subst (λ (y : Number). CutTo j Q b (on_number y go)) (sym k) cut_end
+      | inl k ↦ subst (λ (y : Found (Part ℕ)). CutTo j Q b (on_number y go)) (sym k.1) (f k.0)
+      | inr k ↦ subst (λ (y : Found (Part ℕ)). CutTo j Q b (on_number y go)) (sym k) cut_end
     ]
 
 pub cut_refuse : {B : Type 0} {j : ℕ} {Q : Type 0} {b : B} (k place : ℕ) (go : Found B) → k ≡ 0 → CutTo j Q b go → CutTo j Q b (refuse k place go)

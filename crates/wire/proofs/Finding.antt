@@ -9,11 +9,8 @@ use native.Mathlib.Decide.{ℕ_discrete}
 use lib.ListN.{length}
 use borrow.Author.Tests.{eq-eqb, ne_eqb}
 use Rattle.wire.specs.Cases.{pick}
-use Rattle.wire.specs.Numbers.{number_at}
-use Rattle.wire.specs.Found.{Found, good, fault, and_then, on_number, number, refuse}
-use Rattle.wire.specs.declared.numbers.Cursor.{Cursor}
-use Rattle.wire.specs.declared.numbers.Number.{Number}
-use Rattle.wire.specs.declared.numbers.Number.TheVariants.{Value, Fault}
+use Rattle.wire.specs.Numbers.{number_at, on_number, number}
+use Rattle.wire.specs.Found.{Found, good, fault, and_then, refuse, Part}
 use Rattle.wire.proofs.NumberLaws.{Refusal, number-fault}
 
 -- ---- both ends at once
@@ -37,16 +34,16 @@ pub ends_then : {A B : Type 0} {P : A → Type 0} {R : B → Type 0} {Q : ℕ �
 ends_then (good a) go h f = f a refl h.ends
 ends_then (fault k p) go h f = record { ends = h.ends }
 
-ends_on : {B : Type 0} {R : B → Type 0} {Q : ℕ → ℕ → Type 0} (n : Number) (go : ℕ → ℕ → Found B)
-    → ((k p : ℕ) → n ≡ Fault k p → Q k p)
-    → ((x : ℕ) (c : Cursor) → n ≡ Value x c → Ends R Q (go x c.at))
+ends_on : {B : Type 0} {R : B → Type 0} {Q : ℕ → ℕ → Type 0} (n : Found (Part ℕ)) (go : ℕ → ℕ → Found B)
+    → ((k p : ℕ) → n ≡ fault k p → Q k p)
+    → ((x : ℕ) (c : ℕ) → n ≡ good (record { content = x; next = c }) → Ends R Q (go x c))
     → Ends R Q (on_number n go)
-ends_on (Value x c) go h f = f x c refl
-ends_on (Fault k p) go h f = record { ends = h k p refl }
+ends_on (good r) go h f = f r.content r.next refl
+ends_on (fault k p) go h f = record { ends = h k p refl }
 
 pub ends-number : {B : Type 0} {R : B → Type 0} {Q : ℕ → ℕ → Type 0} (s : List ℕ) (at : ℕ) (go : ℕ → ℕ → Found B)
     → ((k p : ℕ) → Refusal (length s) at k p → Q k p)
-    → ((x : ℕ) (c : Cursor) → number_at s at ≡ Value x c → Ends R Q (go x c.at))
+    → ((x : ℕ) (c : ℕ) → number_at s at ≡ good (record { content = x; next = c }) → Ends R Q (go x c))
     → Ends R Q (number s at go)
 ends-number s at go h f = ends_on (number_at s at) go (λ k p e. h k p (number-fault s at k p e)) f
 
@@ -73,13 +70,13 @@ pub then_good : {A B : Type 0} (x : Found A) (go : A → Found B) (b : B) → an
 then_good (good a) go b e = (a, refl, e)
 then_good (fault k p) go b e = let z : ◌≡◌ {A = ℕ} 0 1 = cc in absurd (omega arith)
 
-on-good : {B : Type 0} (n : Number) (go : ℕ → ℕ → Found B) (b : B) → on_number n go ≡ good b
-    → (x : ℕ) × (c : Cursor) × (n ≡ Value x c) × (go x c.at ≡ good b)
-on-good (Value x c) go b e = (x, c, refl, e)
-on-good (Fault k p) go b e = let z : ◌≡◌ {A = ℕ} 0 1 = cc in absurd (omega arith)
+on-good : {B : Type 0} (n : Found (Part ℕ)) (go : ℕ → ℕ → Found B) (b : B) → on_number n go ≡ good b
+    → (x : ℕ) × (c : ℕ) × (n ≡ good (record { content = x; next = c })) × (go x c ≡ good b)
+on-good (good r) go b e = (r.content, r.next, refl, e)
+on-good (fault k p) go b e = let z : ◌≡◌ {A = ℕ} 0 1 = cc in absurd (omega arith)
 
 pub number-good : {B : Type 0} (s : List ℕ) (at : ℕ) (go : ℕ → ℕ → Found B) (b : B) → number s at go ≡ good b
-    → (x : ℕ) × (c : Cursor) × (number_at s at ≡ Value x c) × (go x c.at ≡ good b)
+    → (x : ℕ) × (c : ℕ) × (number_at s at ≡ good (record { content = x; next = c })) × (go x c ≡ good b)
 number-good s at go b e = on-good (number_at s at) go b e
 
 pub refuse-good : {B : Type 0} (k place : ℕ) (go : Found B) (b : B) → refuse k place go ≡ good b → (k ≡ 0) × (go ≡ good b)
@@ -103,7 +100,7 @@ pub on_then : {A B X : Type 0} (x : Found A) (go : A → Found B) (b : B) → an
 on_then x go b e f = let t = then_good x go b e in f t.0 t.1 t.2
 
 pub on-number : {B X : Type 0} (s : List ℕ) (at : ℕ) (go : ℕ → ℕ → Found B) (b : B) → number s at go ≡ good b
-    → ((x : ℕ) (c : Cursor) → number_at s at ≡ Value x c → go x c.at ≡ good b → X) → X
+    → ((x : ℕ) (c : ℕ) → number_at s at ≡ good (record { content = x; next = c }) → go x c ≡ good b → X) → X
 on-number s at go b e f = let t = number-good s at go b e in f t.0 t.1 t.2 t.3
 
 pub on-refuse : {B X : Type 0} (k place : ℕ) (go : Found B) (b : B) → refuse k place go ≡ good b → (k ≡ 0 → go ≡ good b → X) → X

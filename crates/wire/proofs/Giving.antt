@@ -13,14 +13,13 @@ use lib.Seq.{drop-drop, drop-append_seam}
 use lib.Dec.{ltb}
 use borrow.Author.Tests.{eq-eqb, ne_eqb, lt-ltb, le-ltb}
 use Rattle.wire.specs.Cases.{pick}
-use Rattle.wire.specs.Found.{Found, good, fault, Part, and_then, number, refuse, first, refusal_number, as_content}
-use Rattle.wire.specs.Numbers.{encode_in, encode, number_in, number_at}
+use Rattle.wire.specs.Found.{Found, good, fault, Part, and_then, refuse, first, refusal_number, as_content}
+use Rattle.wire.specs.Numbers.{number, encode_in, encode, number_in, number_at}
 use Rattle.wire.specs.Refusals.{bad_number}
-use Rattle.wire.specs.declared.numbers.Cursor.{Cursor}
-use Rattle.wire.specs.declared.numbers.Number.TheVariants.{Value, Fault}
 use Rattle.wire.proofs.Finding.{refuse-good, good-same}
 use Rattle.wire.proofs.Reading.{great_in, next_in}
 use Rattle.wire.proofs.Encoding.{split, more_in}
+use Rattle.wire.proofs.Reading.{read_same}
 use Rattle.wire.proofs.NumberLaws.{number_suffix}
 
 -- ---- a number that is too great
@@ -34,7 +33,7 @@ great_some : (l x : ℕ) → Great l x → 16 ≤ x
 great_some zero x h = h
 great_some (suc l) x h = omega (arith, great_some l (x / 128) h)
 
-great_read : (l x : ℕ) (rest : List ℕ) (end start at w acc : ℕ) → Great l x → number_in l (encode_in l x ++ rest) end start at w acc ≡ Fault bad_number start
+great_read : (l x : ℕ) (rest : List ℕ) (end start at w acc : ℕ) → Great l x → number_in l (encode_in l x ++ rest) end start at w acc ≡ fault bad_number start
 unfolding encode_in
 great_read zero x rest end start at w acc h = great_in x rest end start at w acc (omega arith)
 great_read (suc l) x rest end start at w acc h =
@@ -44,7 +43,7 @@ great_read (suc l) x rest end start at w acc h =
     ∙ great_read l (x / 128) rest end start (at + 1) _ _ h
 
 -- a number of 2^32 or more, written and read, is refused at its first byte
-pub number_great : (s : List ℕ) (at x : ℕ) (rest : List ℕ) → 2 ^ 32 ≤ x → drop at s ≡ encode x ++ rest → number_at s at ≡ Fault bad_number at
+pub number_great : (s : List ℕ) (at x : ℕ) (rest : List ℕ) → 2 ^ 32 ≤ x → drop at s ≡ encode x ++ rest → number_at s at ≡ fault bad_number at
 unfolding number_at encode
 number_great s at x rest h e =
     ap (λ (t : List ℕ). number_in 4 t (length s) at at 1 0) e ∙ great_read 4 x rest (length s) at at 1 0 (omega arith)
@@ -57,8 +56,8 @@ pub number_free : (x : ℕ) → x < 2 ^ 32 → number_fault x ≡ 0
 number_free x h = simp (lt-ltb x (2 ^ 32) h)
 
 -- a number that was written and read: it is the same one, and what follows is left
-pub value_written : (s : List ℕ) (at x : ℕ) (rest : List ℕ) (y : ℕ) (c : Cursor) → drop at s ≡ encode x ++ rest → number_at s at ≡ Value y c
-    → (y ≡ x) × (drop c.at s ≡ rest)
+pub value_written : (s : List ℕ) (at x : ℕ) (rest : List ℕ) (y : ℕ) (c : ℕ) → drop at s ≡ encode x ++ rest → number_at s at ≡ good (record { content = y; next = c })
+    → (y ≡ x) × (drop c s ≡ rest)
 value_written s at x rest y c d e =
     split (2 ^ 32) x
     (λ h.
@@ -67,9 +66,8 @@ value_written s at x rest y c d e =
     absurd (omega arith))
     (λ h.
     let t = number_suffix s at x rest h d in
-    let k = sym t.0 ∙ e in
-    let n : at + length (encode x) ≡ c.at = cc in
-    (cc, ap (λ (j : ℕ). drop j s) (sym n) ∙ t.1))
+    let k = read_same (sym t.0 ∙ e) in
+    (sym k.0, ap (λ (j : ℕ). drop j s) (sym k.1) ∙ t.1))
 
 -- ---- what was found, with its place forgotten
 

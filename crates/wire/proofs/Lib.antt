@@ -1,4 +1,4 @@
--- The laws of the wire layer. Callers cite NumberLaws, Encoding, Rest, Laying, Alphabet, Finding, Giving, Cutting and Replying.
+-- The laws of the wire layer. Callers cite NumberLaws, Reading (read_same), Encoding, Rest, Laying, Alphabet, Finding, Giving, Cutting and Replying.
 pub mod Reading
 pub mod Encoding
 pub mod Putting

@@ -8,15 +8,13 @@ use native.Mathlib.Omega.{arith}
 use native.Mathlib.Nat.{add-mul, mul_assoc, mul_comm, mul_left_comm}
 use lib.ListN.{length, get_or, take, drop, length-append, length-drop}
 use lib.Seq.{drop-append_seam, take-append_seam, get_or-drop, drop-drop, take-nil, length-take-le}
-use Rattle.wire.specs.Numbers.{encode_in, encode}
+use Rattle.wire.specs.Numbers.{encode_in, encode, ended, number_in, number_at}
 use Rattle.wire.specs.Refusals.{bytes_end, bad_number}
-use Rattle.wire.specs.Numbers.{ended, number_in, number_at}
-use Rattle.wire.specs.declared.numbers.Cursor.{Cursor}
-use Rattle.wire.specs.declared.numbers.Number.TheVariants.{Value, Fault}
-use Rattle.wire.proofs.Reading.{ended-refused, ended_whole, ended-first, none_in, great_in, fifth_in, last_in, next_in}
+use Rattle.wire.proofs.Reading.{read_same, ended-refused, ended_whole, ended-first, none_in, great_in, fifth_in, last_in, next_in}
 use Rattle.wire.proofs.Encoding.{split, one_in, more_in, encode-some}
+use Rattle.wire.specs.Found.{good, fault}
 
-ended-right : (b start at w acc : ℕ) → (b ≡ 0 → at ≤ start) → ended b start at w acc ≡ Value (b * w + acc) (record { at = at + 1 })
+ended-right : (b start at w acc : ℕ) → (b ≡ 0 → at ≤ start) → ended b start at w acc ≡ good (record { content = b * w + acc; next = at + 1 })
 ended-right b start at w acc h =
     split 1 b (λ g. ended_whole b start at w acc (λ e. omega arith)) (λ g. ended-first b start at w acc (h (omega arith)))
 
@@ -35,12 +33,12 @@ groups y g w acc =
     omega arith
 
 back_in : (l x : ℕ) (rest : List ℕ) (end start at w acc : ℕ) → Below l x → (x ≡ 0 → at ≤ start)
-    → number_in l (encode_in l x ++ rest) end start at w acc ≡ Value (x * w + acc) (record { at = at + length (encode_in l x) })
+    → number_in l (encode_in l x ++ rest) end start at w acc ≡ good (record { content = x * w + acc; next = at + length (encode_in l x) })
 back_in zero x rest end start at w acc h z =
     ap (λ (t : List ℕ). number_in 0 (t ++ rest) end start at w acc) (one_in 0 x (omega arith))
     ∙ fifth_in x rest end start at w acc (omega arith)
     ∙ ended-right x start at w acc z
-    ∙ ap (λ (t : List ℕ). Value (x * w + acc) (record { at = at + length t })) (sym (one_in 0 x (omega arith)))
+    ∙ ap (λ (t : List ℕ). good (record { content = x * w + acc; next = at + length t })) (sym (one_in 0 x (omega arith)))
 back_in (suc l) x rest end start at w acc h z =
     split 128 x
     (λ g.
@@ -51,26 +49,26 @@ back_in (suc l) x rest end start at w acc h z =
     ∙ next_in b (encode_in l (x / 128) ++ rest) end start at w acc l (omega arith)
     ∙ ap (λ (k : ℕ). number_in l (encode_in l (x / 128) ++ rest) end start (at + 1) (w * 128) k) e
     ∙ back_in l (x / 128) rest end start (at + 1) (w * 128) (x % 128 * w + acc) h (λ q. absurd (omega arith))
-    ∙ ap₂ (λ (v k : ℕ). Value v (record { at = k })) (groups (x / 128) (x % 128) w acc ∙ ap (λ (k : ℕ). k * w + acc) (omega arith)) n)
+    ∙ ap₂ (λ (v k : ℕ). good (record { content = v; next = k })) (groups (x / 128) (x % 128) w acc ∙ ap (λ (k : ℕ). k * w + acc) (omega arith)) n)
     (λ g.
     ap (λ (t : List ℕ). number_in (suc l) (t ++ rest) end start at w acc) (one_in (suc l) x g)
     ∙ last_in x rest end start at w acc l g
     ∙ ended-right x start at w acc z
-    ∙ ap (λ (t : List ℕ). Value (x * w + acc) (record { at = at + length t })) (sym (one_in (suc l) x g)))
+    ∙ ap (λ (t : List ℕ). good (record { content = x * w + acc; next = at + length t })) (sym (one_in (suc l) x g)))
 
 -- The form to go on with: where what is left begins with x's encoding, x is read, and what is left then is what follows it.
 pub number_suffix : (s : List ℕ) (at x : ℕ) (rest : List ℕ) → x < 2 ^ 32 → drop at s ≡ encode x ++ rest
-    → (number_at s at ≡ Value x (record { at = at + length (encode x) })) × (drop (at + length (encode x)) s ≡ rest)
+    → (number_at s at ≡ good (record { content = x; next = at + length (encode x) })) × (drop (at + length (encode x)) s ≡ rest)
 unfolding number_at encode
 number_suffix s at x rest h e = (
   ap (λ (t : List ℕ). number_in 4 t (length s) at at 1 0) e
       ∙ back_in 4 x rest (length s) at at 1 0 (omega arith) (λ q. omega arith)
-      ∙ ap (λ (v : ℕ). Value v (record { at = at + length (encode x) })) (omega arith),
+      ∙ ap (λ (v : ℕ). good (record { content = v; next = at + length (encode x) })) (omega arith),
   sym (drop-drop (length (encode x)) at s) ∙ ap (drop (length (encode x))) e ∙ drop-append_seam (encode x) rest,
 )
 
 pub number-encode : (before : List ℕ) (x : ℕ) (rest : List ℕ) → x < 2 ^ 32
-    → number_at (before ++ (encode x ++ rest)) (length before) ≡ Value x (record { at = length before + length (encode x) })
+    → number_at (before ++ (encode x ++ rest)) (length before) ≡ good (record { content = x; next = length before + length (encode x) })
 number-encode before x rest h =
     (number_suffix (before ++ (encode x ++ rest)) (length before) x rest h (drop-append_seam before (encode x ++ rest))).0
 
@@ -81,27 +79,27 @@ abbrev pub Bytes : List ℕ → Type 0
 Bytes s = (i : ℕ) → get_or s i 0 < 256
 
 -- what `ended` took
-ended_took : (b start at w acc v : ℕ) (c : Cursor) → ended b start at w acc ≡ Value v c
-    → (v ≡ b * w + acc) × (c ≡ record { at = at + 1 }) × (b ≡ 0 → at ≤ start)
+ended_took : (b start at w acc v : ℕ) (c : ℕ) → ended b start at w acc ≡ good (record { content = v; next = c })
+    → (v ≡ b * w + acc) × (c ≡ at + 1) × (b ≡ 0 → at ≤ start)
 ended_took b start at w acc v c e =
     split 1 b
-    (λ g. let f = sym (ended_whole b start at w acc (λ q. omega arith)) ∙ e in (cc, cc, λ q. omega arith))
+    (λ g. let f = read_same (sym (ended_whole b start at w acc (λ q. omega arith)) ∙ e) in (sym f.0, sym f.1, λ q. omega arith))
     (λ g.
     split at start
-    (λ h. let f = sym (ended-first b start at w acc h) ∙ e in (cc, cc, λ q. h))
+    (λ h. let f = read_same (sym (ended-first b start at w acc h) ∙ e) in (sym f.0, sym f.1, λ q. h))
     (λ h. let f = sym (ended-refused b start at w acc (omega arith) h) ∙ e in let z : ◌≡◌ {A = ℕ} 0 1 = cc in absurd (omega arith)))
 
 -- s begins with the encoding of a number x, which the groups before it make v
-pub record Took (l : ℕ) (s : List ℕ) (start at w acc v : ℕ) (c : Cursor) : Type 0 where
+pub record Took (l : ℕ) (s : List ℕ) (start at w acc v : ℕ) (c : ℕ) : Type 0 where
   pub x : ℕ
   pub rest : List ℕ
   pub below : Below l x
   pub value : v ≡ x * w + acc
   pub bytes : s ≡ encode_in l x ++ rest
-  pub next : c.at ≡ at + length (encode_in l x)
+  pub next : c ≡ at + length (encode_in l x)
   pub first : x ≡ 0 → at ≤ start
 
-took_one : (l b : ℕ) (s : List ℕ) (start at w acc v : ℕ) (c : Cursor) → Below l b → b < 128 → ended b start at w acc ≡ Value v c
+took_one : (l b : ℕ) (s : List ℕ) (start at w acc v : ℕ) (c : ℕ) → Below l b → b < 128 → ended b start at w acc ≡ good (record { content = v; next = c })
     → Took l (b ∷ s) start at w acc v c
 took_one l b s start at w acc v c h g e =
     let t = ended_took b start at w acc v c e in
@@ -111,7 +109,7 @@ took_one l b s start at w acc v c h g e =
       below = h;
       value = t.0;
       bytes = ap (λ (u : List ℕ). u ++ s) (sym (one_in l b g));
-      next = ap (λ (k : Cursor). k.at) t.1 ∙ omega (arith, ap length (one_in l b g));
+      next = ap (λ (k : ℕ). k) t.1 ∙ omega (arith, ap length (one_in l b g));
       first = t.2;
     }
 
@@ -119,7 +117,7 @@ below-few : (l b : ℕ) → b < 128 → Below (suc l) b
 below-few zero b h = omega arith
 below-few (suc l) b h = below-few l (b / 128) (omega arith)
 
-took_more : (l b : ℕ) (s : List ℕ) (start at w acc v : ℕ) (c : Cursor) → 128 ≤ b → b < 256 → start ≤ at
+took_more : (l b : ℕ) (s : List ℕ) (start at w acc v : ℕ) (c : ℕ) → 128 ≤ b → b < 256 → start ≤ at
     → Took l s start (at + 1) (w * 128) ((b - 128) * w + acc) v c → Took (suc l) (b ∷ s) start at w acc v c
 took_more l b s start at w acc v c g k o t =
     let y : ℕ = t.x in
@@ -140,8 +138,8 @@ took_more l b s start at w acc v c g k o t =
       first = λ z. absurd (omega arith);
     }
 
-took : (l : ℕ) (s : List ℕ) (end start at w acc v : ℕ) (c : Cursor) → Bytes s → start ≤ at
-    → number_in l s end start at w acc ≡ Value v c → Took l s start at w acc v c
+took : (l : ℕ) (s : List ℕ) (end start at w acc v : ℕ) (c : ℕ) → Bytes s → start ≤ at
+    → number_in l s end start at w acc ≡ good (record { content = v; next = c }) → Took l s start at w acc v c
 took l [] end start at w acc v c h o e =
     let f = sym (none_in l end start at w acc) ∙ e in
     let z : ◌≡◌ {A = ℕ} 0 1 = cc in
@@ -161,19 +159,19 @@ took (suc l) (b ∷ s) end start at w acc v c h o e =
     (λ g. took_one (suc l) b s start at w acc v c (below-few l b g) g (sym (last_in b s end start at w acc l g) ∙ e))
 
 -- What a value that was read says: it fits a u32, the place after it is within the file, and the bytes between are its encoding.
-pub record Reads (s : List ℕ) (at x : ℕ) (c : Cursor) : Type 0 where
+pub record Reads (s : List ℕ) (at x : ℕ) (c : ℕ) : Type 0 where
   pub fits : x < 2 ^ 32
-  pub next : c.at ≡ at + length (encode x)
-  pub within : c.at ≤ length s
+  pub next : c ≡ at + length (encode x)
+  pub within : c ≤ length s
   pub bytes : take (length (encode x)) (drop at s) ≡ encode x
-  pub suffix : drop at s ≡ encode x ++ drop c.at s
+  pub suffix : drop at s ≡ encode x ++ drop c s
 
-pub number-value : (s : List ℕ) (at x : ℕ) (c : Cursor) → Bytes s → number_at s at ≡ Value x c → Reads s at x c
+pub number-value : (s : List ℕ) (at x : ℕ) (c : ℕ) → Bytes s → number_at s at ≡ good (record { content = x; next = c }) → Reads s at x c
 unfolding number_at encode
 number-value s at x c h e =
     let t = took 4 (drop at s) (length s) at at 1 0 x c (λ i. rw get_or-drop (h (at + i))) (omega arith) e in
     let v : x ≡ t.x = omega (arith, t.value) in
-    let n : c.at ≡ at + length (encode x) = t.next ∙ ap (λ (k : ℕ). at + length (encode k)) (sym v) in
+    let n : c ≡ at + length (encode x) = t.next ∙ ap (λ (k : ℕ). at + length (encode k)) (sym v) in
     let b : drop at s ≡ encode x ++ t.rest = t.bytes ∙ ap (λ (k : ℕ). encode k ++ t.rest) (sym v) in
     let m = simp (length-append, length-drop) at (ap length b) in
     record {
@@ -193,7 +191,7 @@ number-value s at x c h e =
 abbrev pub Refusal : ℕ → ℕ → ℕ → ℕ → Type 0
 Refusal end start k p = ((k ≡ bytes_end) × (p ≡ end)) ⊎ ((k ≡ bad_number) × (p ≡ start))
 
-ended-fault : (b start at w acc end k p : ℕ) → ended b start at w acc ≡ Fault k p → Refusal end start k p
+ended-fault : (b start at w acc end k p : ℕ) → ended b start at w acc ≡ fault k p → Refusal end start k p
 ended-fault b start at w acc end k p e =
     split 1 b
     (λ g. let f = sym (ended_whole b start at w acc (λ q. omega arith)) ∙ e in let z : ◌≡◌ {A = ℕ} 0 1 = cc in absurd (omega arith))
@@ -202,7 +200,7 @@ ended-fault b start at w acc end k p e =
     (λ h. let f = sym (ended-first b start at w acc h) ∙ e in let z : ◌≡◌ {A = ℕ} 0 1 = cc in absurd (omega arith))
     (λ h. let f = sym (ended-refused b start at w acc (omega arith) h) ∙ e in inr (cc, cc)))
 
-fault_in : (l : ℕ) (s : List ℕ) (end start at w acc k p : ℕ) → number_in l s end start at w acc ≡ Fault k p → Refusal end start k p
+fault_in : (l : ℕ) (s : List ℕ) (end start at w acc k p : ℕ) → number_in l s end start at w acc ≡ fault k p → Refusal end start k p
 fault_in l [] end start at w acc k p e = let f = sym (none_in l end start at w acc) ∙ e in inl (cc, cc)
 fault_in zero (b ∷ s) end start at w acc k p e =
     split b 15
@@ -213,14 +211,14 @@ fault_in (suc l) (b ∷ s) end start at w acc k p e =
     (λ g. fault_in l s end start (at + 1) (w * 128) ((b - 128) * w + acc) k p (sym (next_in b s end start at w acc l g) ∙ e))
     (λ g. ended-fault b start at w acc end k p (sym (last_in b s end start at w acc l g) ∙ e))
 
-pub number-fault : (s : List ℕ) (at k p : ℕ) → number_at s at ≡ Fault k p → Refusal (length s) at k p
+pub number-fault : (s : List ℕ) (at k p : ℕ) → number_at s at ≡ fault k p → Refusal (length s) at k p
 unfolding number_at
 number-fault s at k p e = fault_in 4 (drop at s) (length s) at at 1 0 k p e
 
 -- ---- where the place after a number is, whatever the bytes; and what is read of a file that is cut short
 
-within_in : (l : ℕ) (t : List ℕ) (end start at w acc v : ℕ) (c : Cursor) → number_in l t end start at w acc ≡ Value v c
-    → (at < c.at) × (c.at ≤ at + length t)
+within_in : (l : ℕ) (t : List ℕ) (end start at w acc v : ℕ) (c : ℕ) → number_in l t end start at w acc ≡ good (record { content = v; next = c })
+    → (at < c) × (c ≤ at + length t)
 within_in l [] end start at w acc v c e =
     let f = sym (none_in l end start at w acc) ∙ e in
     let z : ◌≡◌ {A = ℕ} 0 1 = cc in
@@ -228,7 +226,7 @@ within_in l [] end start at w acc v c e =
 within_in zero (b ∷ t) end start at w acc v c e =
     split b 15
     (λ g.
-    let q = ap (λ (k : Cursor). k.at) (ended_took b start at w acc v c (sym (fifth_in b t end start at w acc g) ∙ e)).1 in
+    let q = ap (λ (k : ℕ). k) (ended_took b start at w acc v c (sym (fifth_in b t end start at w acc g) ∙ e)).1 in
     (omega arith, omega arith))
     (λ g.
     let f = sym (great_in b t end start at w acc g) ∙ e in
@@ -240,10 +238,10 @@ within_in (suc l) (b ∷ t) end start at w acc v c e =
     let q = within_in l t end start (at + 1) (w * 128) ((b - 128) * w + acc) v c (sym (next_in b t end start at w acc l g) ∙ e) in
     (omega arith, omega arith))
     (λ g.
-    let q = ap (λ (k : Cursor). k.at) (ended_took b start at w acc v c (sym (last_in b t end start at w acc l g) ∙ e)).1 in
+    let q = ap (λ (k : ℕ). k) (ended_took b start at w acc v c (sym (last_in b t end start at w acc l g) ∙ e)).1 in
     (omega arith, omega arith))
 
-pub number-within : (s : List ℕ) (at x : ℕ) (c : Cursor) → number_at s at ≡ Value x c → (at < c.at) × (c.at ≤ length s)
+pub number-within : (s : List ℕ) (at x : ℕ) (c : ℕ) → number_at s at ≡ good (record { content = x; next = c }) → (at < c) × (c ≤ length s)
 unfolding number_at
 number-within s at x c e =
     let q = within_in 4 (drop at s) (length s) at at 1 0 x c e in
@@ -251,15 +249,15 @@ number-within s at x c e =
     (omega arith, omega arith)
 
 -- of the first i bytes a number is read as before if it ends within them, and else "bytes end within the file"
-cut_in : (l : ℕ) (t : List ℕ) (end start at w acc v : ℕ) (c : Cursor) (i cut : ℕ) → number_in l t end start at w acc ≡ Value v c
-    → ((c.at ≤ at + i) × (number_in l (take i t) cut start at w acc ≡ Value v c)) ⊎ (number_in l (take i t) cut start at w acc ≡ Fault 1 cut)
+cut_in : (l : ℕ) (t : List ℕ) (end start at w acc v : ℕ) (c : ℕ) (i cut : ℕ) → number_in l t end start at w acc ≡ good (record { content = v; next = c })
+    → ((c ≤ at + i) × (number_in l (take i t) cut start at w acc ≡ good (record { content = v; next = c }))) ⊎ (number_in l (take i t) cut start at w acc ≡ fault 1 cut)
 cut_in l t end start at w acc v c zero cut e = inr (none_in l cut start at w acc)
 cut_in l [] end start at w acc v c (suc i) cut e = inr (none_in l cut start at w acc)
 cut_in zero (b ∷ t) end start at w acc v c (suc i) cut e =
     split b 15
     (λ g.
     let f = sym (fifth_in b t end start at w acc g) ∙ e in
-    let q = ap (λ (k : Cursor). k.at) (ended_took b start at w acc v c f).1 in
+    let q = ap (λ (k : ℕ). k) (ended_took b start at w acc v c f).1 in
     inl (omega arith, fifth_in b (take i t) cut start at w acc g ∙ f))
     (λ g.
     let f = sym (great_in b t end start at w acc g) ∙ e in
@@ -275,7 +273,7 @@ cut_in (suc l) (b ∷ t) end start at w acc v c (suc i) cut e =
     ])
     (λ g.
     let f = sym (last_in b t end start at w acc l g) ∙ e in
-    let q = ap (λ (k : Cursor). k.at) (ended_took b start at w acc v c f).1 in
+    let q = ap (λ (k : ℕ). k) (ended_took b start at w acc v c f).1 in
     inl (omega arith, last_in b (take i t) cut start at w acc l g ∙ f))
 
 drop-take : (n j : ℕ) (l : List ℕ) → drop n (take j l) ≡ take (j - n) (drop n l)
@@ -284,8 +282,8 @@ drop-take (suc n) zero l = let z : 0 ≡ 0 - suc n = omega arith in ap (λ (k : 
 drop-take (suc n) (suc j) [] = sym (take-nil (suc j - suc n))
 drop-take (suc n) (suc j) (x ∷ l) = let z : j - n ≡ suc j - suc n = omega arith in drop-take n j l ∙ ap (λ (k : ℕ). take k (drop n l)) z
 
-pub number_cut : (s : List ℕ) (at x : ℕ) (c : Cursor) (j : ℕ) → j ≤ length s → number_at s at ≡ Value x c
-    → ((c.at ≤ j) × (number_at (take j s) at ≡ Value x c)) ⊎ (number_at (take j s) at ≡ Fault 1 j)
+pub number_cut : (s : List ℕ) (at x : ℕ) (c : ℕ) (j : ℕ) → j ≤ length s → number_at s at ≡ good (record { content = x; next = c })
+    → ((c ≤ j) × (number_at (take j s) at ≡ good (record { content = x; next = c }))) ⊎ (number_at (take j s) at ≡ fault 1 j)
 unfolding number_at
 number_cut s at x c j h e =
     let w = within_in 4 (drop at s) (length s) at at 1 0 x c e in

@@ -1,7 +1,7 @@
 -- The steps of `number_in` at a place of a file, as equations: what the reader's loop goes by.
 -- Assumes nothing.
 use Prim.Native.Nat.{ℕ, zero, suc, ◌+◌, ◌-◌, ◌*◌, ◌^◌, ◌≤◌, ◌<◌}
-use mathlib.Core.Path.{◌≡◌, refl, sym, ap₂, ◌∙◌}
+use mathlib.Core.Path.{◌≡◌, refl, sym, ap, ap₂, ◌∙◌}
 use mathlib.Core.List.{List, [], ◌∷◌}
 use mathlib.Core.Bool.{and-false}
 use native.Mathlib.Omega.{arith}
@@ -12,28 +12,40 @@ use lib.Arith.{digits_lt}
 use borrow.Author.Tests.{lt-ltb, le-ltb, eq-eqb, ne_eqb}
 use Rattle.wire.specs.Refusals.{bytes_end, bad_number}
 use Rattle.wire.specs.Numbers.{ended, number_in}
-use Rattle.wire.specs.declared.numbers.Number.TheVariants.{Value, Fault}
+use Rattle.wire.specs.Found.{Found, good, fault, Part}
 
-pub ended-refused : (b start at w acc : ℕ) → b ≡ 0 → start < at → ended b start at w acc ≡ Fault bad_number start
+-- what was read is one content and one place
+pub read_same : {x y a b : ℕ} → ◌≡◌ {A = Found (Part ℕ)} (good (record { content = x; next = a })) (good (record { content = y; next = b })) → (x ≡ y) × (a ≡ b)
+read_same e = (ap content_of e, ap next_of e)
+  where
+    content_of : Found (Part ℕ) → ℕ
+    content_of (good p) = p.content
+    content_of (fault k q) = k
+
+    next_of : Found (Part ℕ) → ℕ
+    next_of (good p) = p.next
+    next_of (fault k q) = q
+
+pub ended-refused : (b start at w acc : ℕ) → b ≡ 0 → start < at → ended b start at w acc ≡ fault bad_number start
 unfolding ended
 ended-refused b start at w acc e h = simp (eq-eqb b 0 e, lt-ltb start at h)
 
-pub ended_whole : (b start at w acc : ℕ) → (b ≡ 0 → ⊥) → ended b start at w acc ≡ Value (b * w + acc) (record { at = at + 1 })
+pub ended_whole : (b start at w acc : ℕ) → (b ≡ 0 → ⊥) → ended b start at w acc ≡ good (record { content = b * w + acc; next = at + 1 })
 unfolding ended
 ended_whole b start at w acc n = simp (ne_eqb b 0 n)
 
-pub ended-first : (b start at w acc : ℕ) → at ≤ start → ended b start at w acc ≡ Value (b * w + acc) (record { at = at + 1 })
+pub ended-first : (b start at w acc : ℕ) → at ≤ start → ended b start at w acc ≡ good (record { content = b * w + acc; next = at + 1 })
 unfolding ended
 ended-first b start at w acc h = simp (le-ltb start at h, and-false)
 
 -- ---- the steps, at a list
 
-pub none_in : (l end start at w acc : ℕ) → number_in l [] end start at w acc ≡ Fault bytes_end end
+pub none_in : (l end start at w acc : ℕ) → number_in l [] end start at w acc ≡ fault bytes_end end
 unfolding number_in
 none_in l end start at w acc = refl
 
 module _ (b : ℕ) (s : List ℕ) (end start at w acc : ℕ) where
-  pub great_in : 15 < b → number_in 0 (b ∷ s) end start at w acc ≡ Fault bad_number start
+  pub great_in : 15 < b → number_in 0 (b ∷ s) end start at w acc ≡ fault bad_number start
   unfolding number_in
   great_in h = simp (lt-ltb 15 b h)
 
@@ -52,10 +64,10 @@ module _ (b : ℕ) (s : List ℕ) (end start at w acc : ℕ) where
 -- ---- the steps, at a place of a file
 
 module _ (s : List ℕ) (end start at w acc : ℕ) where
-  pub read_end : (l : ℕ) → length s ≤ at → number_in l (drop at s) end start at w acc ≡ Fault bytes_end end
+  pub read_end : (l : ℕ) → length s ≤ at → number_in l (drop at s) end start at w acc ≡ fault bytes_end end
   read_end l h = rw (drop_of_length-le s h) (none_in l end start at w acc)
 
-  pub read_great : (l : ℕ) → l ≡ 0 → at < length s → 15 < get_or s at 0 → number_in l (drop at s) end start at w acc ≡ Fault bad_number start
+  pub read_great : (l : ℕ) → l ≡ 0 → at < length s → 15 < get_or s at 0 → number_in l (drop at s) end start at w acc ≡ fault bad_number start
   read_great l e h g = rw (e, drop-cons s at 0 h) (great_in (get_or s at 0) (drop (suc at) s) end start at w acc g)
 
   pub read_fifth : (l : ℕ) → l ≡ 0 → at < length s → get_or s at 0 ≤ 15

@@ -1,9 +1,11 @@
 -- What reading finds, and what an entry replies.
-use Rattle.std.specs.Prelude.{ℕ, List, eqb}
+use Rattle.std.specs.Prelude.{ℕ, Result, Ok, Err, eqb}
 use Rattle.wire.specs.Cases.{pick}
-use Rattle.wire.specs.Numbers.{number_at}
-use Rattle.wire.specs.declared.numbers.Number.{Number}
-use Rattle.wire.specs.declared.numbers.Number.TheVariants.{Value, Fault}
+use Rattle.wire.specs.Refusals.{code, file_number}
+use Rattle.wire.specs.declared.numbers.Cursor.{Cursor}
+use Rattle.wire.specs.declared.refusals.Refusal.{Refusal}
+use Rattle.wire.specs.declared.refusals.Fault.{Fault}
+use Rattle.wire.specs.declared.refusals.FileFault.{FileFault}
 
 -- what reading finds: the content, or the number and the place of the first fault
 pub data Found (A : Type 0) : Type 0 where
@@ -19,15 +21,6 @@ pub record Part (A : Type 0) : Type 0 where
 abbrev pub and_then : {A B : Type 0} → Found A → (A → Found B) → Found B
 and_then (good a) go = go a
 and_then (fault k place) go = fault k place
-
--- goes on with a number's value and the place after it
-abbrev pub on_number : {B : Type 0} → Number → (ℕ → ℕ → Found B) → Found B
-on_number (Value x c) go = go x c.at
-on_number (Fault k place) go = fault k place
-
--- goes on with the number at a place of the file s
-abbrev pub number : {B : Type 0} → List ℕ → ℕ → (ℕ → ℕ → Found B) → Found B
-number s at go = on_number (number_at s at) go
 
 -- goes on where the rule gives no refusal number (0), else that number at the place
 abbrev pub refuse : {B : Type 0} → ℕ → ℕ → Found B → Found B
@@ -61,3 +54,25 @@ refusal_number (fault k place) = k
 abbrev pub as_content : {A B : Type 0} → (A → B) → Found A → Found B
 as_content f (good a) = good (f a)
 as_content f (fault k place) = fault k 0
+
+-- ---- what code answers
+
+-- what code found: the content, or the fault
+abbrev pub found : {A : Type 0} → Result A Fault → Found A
+found (Ok a) = good a
+found (Err f) = fault (code f.refusal) f.place
+
+-- what code read: the content with the place after it, or the fault
+abbrev pub reading : {A : Type 0} → Result (A × Cursor) Fault → Found (Part A)
+reading (Ok r) = good (record { content = r.0; next = r.1.at })
+reading (Err f) = fault (code f.refusal) f.place
+
+-- the refusal number that code gives, 0 for none
+abbrev pub told : {A : Type 0} → Result A Refusal → ℕ
+told (Ok a) = 0
+told (Err r) = code r
+
+-- what code replies: accepted, or the fault's number, file and place
+abbrev pub replied : {A : Type 0} → Result A FileFault → Reply A
+replied (Ok a) = accepted a
+replied (Err f) = refused (code f.fault.refusal) (file_number f.file) f.fault.place

@@ -1,5 +1,24 @@
 -- The refusal numbers of document 01, chapter "Refusal numbers", in its words and order, and the two files that an answer names.
 use Rattle.std.specs.Prelude.{ℕ}
+use Rattle.wire.specs.declared.refusals.Refusal.{Refusal}
+use Rattle.wire.specs.declared.refusals.Refusal.TheVariants.{
+  BytesEnd,
+  BadNumber,
+  WrongKind,
+  OutOfRange,
+  NotLetter,
+  NoVertex,
+  NotRising,
+  NotEdge,
+  OnNoPath,
+  LeftOver,
+  Outside,
+  LettersDiffer,
+  SmallBuffer,
+  ShortOutput,
+}
+use Rattle.wire.specs.declared.refusals.File.{File}
+use Rattle.wire.specs.declared.refusals.File.TheVariants.{Graph, Anchors}
 
 -- "bytes end within the file"
 abbrev pub bytes_end : ℕ
@@ -63,3 +82,25 @@ graph_file = 1
 
 abbrev pub anchor_file : ℕ
 anchor_file = 2
+
+-- the number of a refusal
+abbrev pub code : Refusal → ℕ
+code BytesEnd = bytes_end
+code BadNumber = bad_number
+code WrongKind = wrong_kind
+code OutOfRange = out_of_range
+code NotLetter = not_letter
+code NoVertex = no_vertex
+code NotRising = not_rising
+code NotEdge = not_edge
+code OnNoPath = on_no_path
+code LeftOver = left_over
+code Outside = outside
+code LettersDiffer = letters_differ
+code SmallBuffer = small_buffer
+code ShortOutput = short_output
+
+-- the number of a file
+abbrev pub file_number : File → ℕ
+file_number Graph = graph_file
+file_number Anchors = anchor_file

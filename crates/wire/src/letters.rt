@@ -1,11 +1,10 @@
-// The class of a byte.
+// The letters of labels and reads.
 
-// The letter that a byte is, if it is one.
-#[derive(Clone, Copy)]
+// A letter.
+#[derive(Clone, Copy, PartialEq, Eq)]
 pub enum Letter {
     A,
     C,
     G,
     T,
-    Other,
 }

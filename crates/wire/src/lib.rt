@@ -5,4 +5,4 @@
 pub mod refusals; // refusals.rt: the refusal numbers
 pub mod sizes; // sizes.rt: ranges and full sizes
 pub mod numbers; // numbers.rt: a number is read at a cursor, counted, and written
-pub mod letters; // letters.rt: the class of a byte
+pub mod letters; // letters.rt: the letters

@@ -1,9 +1,10 @@
 // Numbers in groups of seven bits: read at a cursor, counted, and written.
 ghost use Rattle.std.specs.Prelude.{◌≡◌, ◌+◌, ◌*◌, ◌^◌, ◌≤◌, ◌<◌, length};
+ghost use Rattle.wire.specs.Found.{reading};
 ghost use Rattle.wire.specs.Numbers.{ended, number_at, encode};
 ghost use Rattle.wire.specs.Lent.{front};
 
-use crate::refusals::{BAD_NUMBER, BYTES_END};
+use crate::refusals::{Fault, Refusal};
 
 // A place in a file, counted from 0.
 #[derive(Clone, Copy)]
@@ -11,41 +12,39 @@ pub struct Cursor {
     pub at: usize,
 }
 
-// What reading a number finds: its value with the next cursor, or the refusal's number and place.
-#[derive(Clone, Copy)]
-pub enum Number {
-    Value(u32, Cursor),
-    Fault(u32, usize),
-}
-
 // The last group b, at the place `at`, of a number that starts at `start`.
-fn end_number(b: u32, start: usize, at: usize, weight: u32, value: u32) -> Number
+fn end_number(
+    b: u32,
+    start: usize,
+    at: usize,
+    weight: u32,
+    value: u32,
+) -> Result<(u32, Cursor), Fault>
     requires value_bound { b * weight + value < 2 ^ 32 }
     requires at_bound { at + 1 < 2 ^ 64 }
-    ensures { result ≡ ended b start at weight value }
+    ensures { reading result ≡ ended b start at weight value }
 {
     if b == 0 {
         if start < at {
-            return Number::Fault(BAD_NUMBER, start);
+            return Err(Refusal::BadNumber.at(start));
         }
     }
-    Number::Value(b * weight + value, Cursor { at: at + 1 })
+    Ok((b * weight + value, Cursor { at: at + 1 }))
 }
 
 // Reads the number at a cursor, wherever that is.
-pub fn read_number(bytes: &[u8], cursor: Cursor) -> Number
-    ensures { result ≡ number_at bytes.now cursor.at }
+pub fn read_number(bytes: &[u8], cursor: Cursor) -> Result<(u32, Cursor), Fault>
+    ensures { reading result ≡ number_at bytes.now cursor.at }
 {
     let start = cursor.at;
-    let mut at = start;
     let mut left: u32 = 4;
     let mut weight: u32 = 1;
     let mut value: u32 = 0;
-    while at < bytes.len() {
+    for at in start..bytes.len() {
         let b = bytes[at] as u32;
         if left == 0 {
             if 15 < b {
-                return Number::Fault(BAD_NUMBER, start);
+                return Err(Refusal::BadNumber.at(start));
             }
             return end_number(b, start, at, weight, value);
         }
@@ -54,10 +53,9 @@ pub fn read_number(bytes: &[u8], cursor: Cursor) -> Number
         }
         value = (b - 128) * weight + value;
         weight = weight * 128;
-        at += 1;
         left -= 1;
     }
-    Number::Fault(BYTES_END, bytes.len())
+    Err(Refusal::BytesEnd.at(bytes.len()))
 }
 
 // How many bytes x is written in.

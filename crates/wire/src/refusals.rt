@@ -1,33 +1,100 @@
-// The refusal numbers of document 01, each under the name that specs/Refusals.antt gives it.
-pub const BYTES_END: u32 = 1;
+// The refusals of document 01, a fault of a file, and the two files that an answer names.
+ghost use Rattle.std.specs.Prelude.{◌≡◌};
+ghost use Rattle.wire.specs.Refusals.{code, file_number};
 
-pub const BAD_NUMBER: u32 = 2;
+// The refusals, in the order of their numbers.
+#[derive(Clone, Copy, PartialEq, Eq)]
+pub enum Refusal {
+    BytesEnd,
+    BadNumber,
+    WrongKind,
+    OutOfRange,
+    NotLetter,
+    NoVertex,
+    NotRising,
+    NotEdge,
+    OnNoPath,
+    LeftOver,
+    Outside,
+    LettersDiffer,
+    SmallBuffer,
+    ShortOutput,
+}
 
-pub const WRONG_KIND: u32 = 3;
+impl From<Refusal> for u32 {
+    // The number of a refusal.
+    fn from(refusal: Refusal) -> u32
+        ensures { result ≡ code refusal }
+    {
+        match refusal {
+            Refusal::BytesEnd => 1,
+            Refusal::BadNumber => 2,
+            Refusal::WrongKind => 3,
+            Refusal::OutOfRange => 4,
+            Refusal::NotLetter => 5,
+            Refusal::NoVertex => 6,
+            Refusal::NotRising => 7,
+            Refusal::NotEdge => 8,
+            Refusal::OnNoPath => 9,
+            Refusal::LeftOver => 10,
+            Refusal::Outside => 11,
+            Refusal::LettersDiffer => 12,
+            Refusal::SmallBuffer => 13,
+            Refusal::ShortOutput => 14,
+        }
+    }
+}
 
-pub const OUT_OF_RANGE: u32 = 4;
+// A fault of a file: its refusal and its place.
+#[derive(Clone, Copy)]
+pub struct Fault {
+    pub refusal: Refusal,
+    pub place: usize,
+}
 
-pub const NOT_LETTER: u32 = 5;
+impl Refusal {
+    // This refusal at a place of a file.
+    pub fn at(self, place: usize) -> Fault
+        ensures { result ≡ record { refusal = self; place = place } }
+    {
+        Fault {
+            refusal: self,
+            place,
+        }
+    }
+}
 
-pub const NO_VERTEX: u32 = 6;
+// The files that an answer names.
+#[derive(Clone, Copy, PartialEq, Eq)]
+pub enum File {
+    Graph,
+    Anchors,
+}
 
-pub const NOT_RISING: u32 = 7;
+impl From<File> for u32 {
+    // The number of a file.
+    fn from(file: File) -> u32
+        ensures { result ≡ file_number file }
+    {
+        match file {
+            File::Graph => 1,
+            File::Anchors => 2,
+        }
+    }
+}
 
-pub const NOT_EDGE: u32 = 8;
+// A fault, and the file that it is in.
+#[derive(Clone, Copy)]
+pub struct FileFault {
+    pub file: File,
+    pub fault: Fault,
+}
 
-pub const ON_NO_PATH: u32 = 9;
-
-pub const LEFT_OVER: u32 = 10;
-
-pub const OUTSIDE: u32 = 11;
-
-pub const LETTERS_DIFFER: u32 = 12;
-
-pub const SMALL_BUFFER: u32 = 13;
-
-pub const SHORT_OUTPUT: u32 = 14;
-
-// The files of an answer.
-pub const GRAPH_FILE: u32 = 1;
-
-pub const ANCHOR_FILE: u32 = 2;
+impl Fault {
+    // This fault, of a file.
+    pub fn of(self, file: File) -> FileFault
+        ensures { result ≡ record { file = file; fault = self } }
+    {
+        FileFault { file, fault: self }
+    }
+}

@@ -8,15 +8,15 @@ ghost use Rattle.wire.specs.Lent.{front};
 use wire::letters::Letter;
 
 // The letter that a byte is, if it is one.
-pub fn letter_of(byte: u8) -> Letter
+pub fn letter_of(byte: u8) -> Option<Letter>
     ensures { result ≡ letter_of byte }
 {
     match byte {
-        b'A' => Letter::A,
-        b'C' => Letter::C,
-        b'G' => Letter::G,
-        b'T' => Letter::T,
-        _ => Letter::Other,
+        b'A' => Some(Letter::A),
+        b'C' => Some(Letter::C),
+        b'G' => Some(Letter::G),
+        b'T' => Some(Letter::T),
+        _ => None,
     }
 }
 
@@ -24,20 +24,14 @@ pub fn letter_of(byte: u8) -> Letter
 pub fn is_letter(byte: u8) -> bool
     ensures { result ≡ is_letter byte }
 {
-    match letter_of(byte) {
-        Letter::A => true,
-        Letter::C => true,
-        Letter::G => true,
-        Letter::T => true,
-        Letter::Other => false,
-    }
+    letter_of(byte).is_some()
 }
 
 // Whether two bytes are letters that agree.
 pub fn letters_agree(a: u8, b: u8) -> bool
     ensures { result ≡ agree a b }
 {
-    if a == b { is_letter(a) } else { false }
+    a == b && is_letter(a)
 }
 
 // Writes letters at the front of out, and says how many. The caller has seen that there is room.
@@ -45,10 +39,7 @@ pub fn put_letters(out: &mut [u8], letters: &[u8]) -> usize
     requires { length letters.now ≤ length out.old }
     ensures { (result ≡ length letters.now) × (out.new ≡ front letters.now out.old) }
 {
-    let mut i: usize = 0;
-    while i < letters.len() {
-        out[i] = letters[i];
-        i += 1;
-    }
-    i
+    let n = letters.len();
+    out[..n].copy_from_slice(letters);
+    n
 }

@@ -14,28 +14,25 @@
 ghost use Rattle.caseinput.specs.Counts.{IsPrefixLen};
 
 use anchors_write::write_anchors;
-use caseinput::digest::{DIGEST_START, put_bytes};
-use caseinput::input::{read_file, read_kind, read_letters, read_number, read_numbers};
+use caseinput::digest::DIGEST_START;
+use caseinput::entry::{put_all, read_buffer};
+use caseinput::input::{read_file, read_kind, read_number};
 use graph_write::write_graph;
 use std::io;
 use std::io::{Read, Write};
-use telling::{BYTE_BEFORE, count_bytes, say};
+use telling::{BYTE_BEFORE, say};
 use texts::say_filled;
 
 // Whether every byte is as it was.
 fn untouched(bytes: &[u8]) -> bool {
-    count_bytes(bytes, BYTE_BEFORE) == bytes.len() as u64
+    bytes.iter().all(|b| *b == BYTE_BEFORE)
 }
 
 // How many bytes of a buffer a number counts.
 fn kept_of(bytes: &[u8], x: u32) -> usize
     ensures { IsPrefixLen result bytes.now }
 {
-    if (x as usize) < bytes.len() {
-        x as usize
-    } else {
-        bytes.len()
-    }
+    (x as usize).min(bytes.len())
 }
 
 // Writes the line of a refusal.
@@ -52,7 +49,7 @@ fn say_written(to: &mut impl Write, bytes: &[u8]) -> io::Result<()> {
     say_filled(
         to,
         b"written # #\n",
-        &[bytes.len() as u64, put_bytes(DIGEST_START, bytes)],
+        &[bytes.len() as u64, put_all(DIGEST_START, bytes)],
     )
 }
 
@@ -96,27 +93,24 @@ fn out_room() -> [u8; 100000] {
 
 // ---- the graph writer: each function reads one more of its buffers
 
-// The counts of a case, and the output's room.
+// The counts of a case, and its buffers, as far as they are read.
 #[derive(Clone, Copy)]
-struct Counted {
-    room: u32,
+struct Content<'a> {
     n: u32,
     m: u32,
     k: u32,
+    letters: &'a [u8],
+    lengths: &'a [u32],
+    edges: &'a [u32],
+    paths: &'a [u32],
+    counts: &'a [u32],
 }
 
 // Calls the writer.
-fn write_into(
-    to: &mut impl Write,
-    g: Counted,
-    letters: &[u8],
-    lengths: &[u32],
-    edges: &[u32],
-    paths: &[u32],
-    counts: &[u32],
-    out: &mut [u8],
-) -> io::Result<()> {
-    let answer = write_graph(g.n, g.m, g.k, letters, lengths, edges, paths, counts, out);
+fn write_into(to: &mut impl Write, g: Content<'_>, out: &mut [u8]) -> io::Result<()> {
+    let answer = write_graph(
+        g.n, g.m, g.k, g.letters, g.lengths, g.edges, g.paths, g.counts, out,
+    );
     tell(
         to,
         answer.number,
@@ -127,77 +121,85 @@ fn write_into(
     )
 }
 
-fn with_room(
-    to: &mut impl Write,
-    g: Counted,
-    letters: &[u8],
-    lengths: &[u32],
-    edges: &[u32],
-    paths: &[u32],
-    counts: &[u32],
-) -> io::Result<()> {
+fn with_room(to: &mut impl Write, g: Content<'_>, room: u32) -> io::Result<()> {
     let mut out = out_room();
-    let room = kept_of(&out, g.room);
-    write_into(
-        to,
-        g,
-        letters,
-        lengths,
-        edges,
-        paths,
-        counts,
-        &mut out[..room],
-    )
+    let room = kept_of(&out, room);
+    write_into(to, g, &mut out[..room])
 }
 
 fn with_counts(
     from: &mut impl Read,
     to: &mut impl Write,
-    g: Counted,
-    letters: &[u8],
-    lengths: &[u32],
-    edges: &[u32],
-    paths: &[u32],
+    g: Content<'_>,
+    room: u32,
 ) -> io::Result<()> {
     let mut counts = [0u32; 116];
-    let size = read_numbers(from, &mut counts)?;
-    with_room(to, g, letters, lengths, edges, paths, &counts[..size])
+    let size = read_buffer(from, &mut counts)?;
+    with_room(
+        to,
+        Content {
+            counts: &counts[..size],
+            ..g
+        },
+        room,
+    )
 }
 
 fn with_paths(
     from: &mut impl Read,
     to: &mut impl Write,
-    g: Counted,
-    letters: &[u8],
-    lengths: &[u32],
-    edges: &[u32],
+    g: Content<'_>,
+    room: u32,
 ) -> io::Result<()> {
     let mut paths = [0u32; 16484];
-    let size = read_numbers(from, &mut paths)?;
-    with_counts(from, to, g, letters, lengths, edges, &paths[..size])
+    let size = read_buffer(from, &mut paths)?;
+    with_counts(
+        from,
+        to,
+        Content {
+            paths: &paths[..size],
+            ..g
+        },
+        room,
+    )
 }
 
 fn with_edges(
     from: &mut impl Read,
     to: &mut impl Write,
-    g: Counted,
-    letters: &[u8],
-    lengths: &[u32],
+    g: Content<'_>,
+    room: u32,
 ) -> io::Result<()> {
     let mut edges = [0u32; 8292];
-    let size = read_numbers(from, &mut edges)?;
-    with_paths(from, to, g, letters, lengths, &edges[..size])
+    let size = read_buffer(from, &mut edges)?;
+    with_paths(
+        from,
+        to,
+        Content {
+            edges: &edges[..size],
+            ..g
+        },
+        room,
+    )
 }
 
 fn with_lengths(
     from: &mut impl Read,
     to: &mut impl Write,
-    g: Counted,
-    letters: &[u8],
+    g: Content<'_>,
+    room: u32,
 ) -> io::Result<()> {
     let mut lengths = [0u32; 1124];
-    let size = read_numbers(from, &mut lengths)?;
-    with_edges(from, to, g, letters, &lengths[..size])
+    let size = read_buffer(from, &mut lengths)?;
+    with_edges(
+        from,
+        to,
+        Content {
+            lengths: &lengths[..size],
+            ..g
+        },
+        room,
+    )
 }
 
 fn answer_graph(from: &mut impl Read, to: &mut impl Write) -> io::Result<()> {
@@ -206,32 +208,34 @@ fn answer_graph(from: &mut impl Read, to: &mut impl Write) -> io::Result<()> {
     let m = read_number(from)?;
     let k = read_number(from)?;
     let mut letters = letter_room();
-    let size = read_letters(from, &mut letters)?;
-    with_lengths(
-        from,
-        to,
-        Counted {
-            room: room,
-            n: n,
-            m: m,
-            k: k,
-        },
-        &letters[..size],
-    )
+    let size = read_buffer(from, &mut letters)?;
+    let g = Content {
+        n,
+        m,
+        k,
+        letters: &letters[..size],
+        lengths: &[],
+        edges: &[],
+        paths: &[],
+        counts: &[],
+    };
+    with_lengths(from, to, g, room)
 }
 
 // ---- the anchor writer: the same
 
-fn write_over(
-    to: &mut impl Write,
+// The counts of a case, its buffers, as far as they are read, and the graph file.
+#[derive(Clone, Copy)]
+struct Anchors<'a> {
     r: u32,
     n: u32,
-    letters: &[u8],
-    anchors: &[u32],
-    graph: &[u8],
-    out: &mut [u8],
-) -> io::Result<()> {
-    let answer = write_anchors(r, n, letters, anchors, graph, out);
+    letters: &'a [u8],
+    numbers: &'a [u32],
+    graph: &'a [u8],
+}
+
+fn write_over(to: &mut impl Write, a: Anchors<'_>, out: &mut [u8]) -> io::Result<()> {
+    let answer = write_anchors(a.r, a.n, a.letters, a.numbers, a.graph, out);
     tell(
         to,
         answer.number,
@@ -242,32 +246,28 @@ fn write_over(
     )
 }
 
-fn over_room(
-    to: &mut impl Write,
-    room: u32,
-    r: u32,
-    n: u32,
-    letters: &[u8],
-    anchors: &[u32],
-    graph: &[u8],
-) -> io::Result<()> {
+fn over_room(to: &mut impl Write, a: Anchors<'_>, room: u32) -> io::Result<()> {
     let mut out = out_room();
     let size = kept_of(&out, room);
-    write_over(to, r, n, letters, anchors, graph, &mut out[..size])
+    write_over(to, a, &mut out[..size])
 }
 
 fn over_anchors(
     from: &mut impl Read,
     to: &mut impl Write,
+    a: Anchors<'_>,
     room: u32,
-    r: u32,
-    n: u32,
-    letters: &[u8],
-    graph: &[u8],
 ) -> io::Result<()> {
     let mut anchors = [0u32; 10340];
-    let size = read_numbers(from, &mut anchors)?;
-    over_room(to, room, r, n, letters, &anchors[..size], graph)
+    let size = read_buffer(from, &mut anchors)?;
+    over_room(
+        to,
+        Anchors {
+            numbers: &anchors[..size],
+            ..a
+        },
+        room,
+    )
 }
 
 fn over_graph(
@@ -279,8 +279,15 @@ fn over_graph(
     let r = read_number(from)?;
     let n = read_number(from)?;
     let mut letters = letter_room();
-    let size = read_letters(from, &mut letters)?;
-    over_anchors(from, to, room, r, n, &letters[..size], graph)
+    let size = read_buffer(from, &mut letters)?;
+    let a = Anchors {
+        r,
+        n,
+        letters: &letters[..size],
+        numbers: &[],
+        graph,
+    };
+    over_anchors(from, to, a, room)
 }
 
 fn answer_anchors(from: &mut impl Read, to: &mut impl Write) -> io::Result<()> {
@@ -292,18 +299,20 @@ fn answer_anchors(from: &mut impl Read, to: &mut impl Write) -> io::Result<()> {
 
 // ---- the records
 
-// Reads one record and answers it; false at the end.
-fn answer_next(from: &mut impl Read, to: &mut impl Write) -> io::Result<bool> {
-    let kind = read_kind(from)?;
-    if kind == 0 {
-        return Ok(false);
+// Which writer a record is for.
+#[derive(Clone, Copy)]
+enum Kind {
+    Graph,
+    Anchors,
+}
+
+// A record's kind; 0 stands after the last record.
+fn kind_of(b: u8) -> Option<Kind> {
+    match b {
+        0 => None,
+        1 => Some(Kind::Graph),
+        _ => Some(Kind::Anchors),
     }
-    if kind == 1 {
-        answer_graph(from, to)?;
-    } else {
-        answer_anchors(from, to)?;
-    }
-    Ok(true)
 }
 
 // Answers record after record: at most 1,000,000, so that it ends on any input.
@@ -311,8 +320,12 @@ fn main(rt: HostRuntime) -> io::Result<()> {
     let mut from = rt.stdin();
     let mut to = rt.stdout();
     for _ in 0..1000000 {
-        if !answer_next(&mut from, &mut to)? {
+        let Some(kind) = kind_of(read_kind(&mut from)?) else {
             break;
+        };
+        match kind {
+            Kind::Graph => answer_graph(&mut from, &mut to)?,
+            Kind::Anchors => answer_anchors(&mut from, &mut to)?,
         }
     }
     Ok(())

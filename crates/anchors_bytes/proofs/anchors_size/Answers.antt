@@ -21,15 +21,15 @@ overflow_add-result c = let a = c.args in omega (arith, encode_most anchor_kind,
 
 pub slice_bounds-numbers_size-end : goal.slice_bounds-numbers_size-end
 slice_bounds-numbers_size-end c =
-    sym (length-take-le (per_anchor * c.wide-end.result) c.args.anchors.now (omega arith))
+    sym (length-take-le (per_anchor * c.args.n) c.args.anchors.now (omega arith))
 
 pub overflow_add-result-2 : goal.overflow_add-result-2
 overflow_add-result-2 c =
     let a = c.args in
-    let xs = take (per_anchor * c.wide-end.result) a.anchors.now in
-    omega (arith, encode_most anchor_kind, encode_most a.r, encode_most a.n, numbers_most xs, length-take-le (per_anchor * c.wide-end.result) a.anchors.now (omega arith))
+    let xs = take (per_anchor * c.args.n) a.anchors.now in
+    omega (arith, encode_most anchor_kind, encode_most a.r, encode_most a.n, numbers_most xs, length-take-le (per_anchor * c.args.n) a.anchors.now (omega arith))
 
 pub returns : goal.returns
 returns c =
     let a = c.args in
-    omega (arith, c.numbers_size.ensures ∙ ap (λ (n : ℕ). length (encode_numbers (take (per_anchor * n) a.anchors.now))) c.wide-end.ensures)
+    omega (arith, c.numbers_size.ensures)

@@ -1,180 +1,89 @@
-use Prim.Native.Nat.{ℕ, ◌*◌}
-use mathlib.Core.Path.{refl, sym, ap}
-use mathlib.Core.List.{List, append-nil}
-use native.Mathlib.Omega.{arith}
-use lib.ListN.{take, length-drop}
-use lib.Seq.{length-take-le}
+use Rattle.std.proofs.Common.{◌≡◌, refl, sym, ap, subst, length, length-append, arith}
+use Rattle.std.proofs.lemmas.List.{append-nil}
+use Rattle.wire.specs.Sizes.{anchor_kind}
 use Rattle.wire.specs.Numbers.{encode}
-use Rattle.wire.proofs.Rest.{rest_part}
-use Rattle.graph.specs.Encode.{encode_numbers}
-use Rattle.graph_bytes.proofs.Along.{along_as, along-fits, along-room, along-long, along-more, along-done}
-use Rattle.anchors.specs.Anchors.{per_anchor}
+use Rattle.graph_bytes.proofs.Along.{along-first, along_as, along_lent, along-more, along-done}
 use Rattle.anchors.specs.AnchorEntries.{AnchorsGiven}
-use Rattle.anchors_bytes.proofs.Sizing.{kind_along, bytes-length}
+use Rattle.anchors.proofs.AnchorGiven.{set-bytes}
+use Rattle.anchors_content.specs.Given.{Lent}
+use Rattle.anchors_bytes.proofs.Sizing.{bytes_parts}
 use Rattle.anchors_bytes.proofs.put_anchors.Goals as goal
-
--- the content
-abbrev given : ℕ → ℕ → List ℕ → List ℕ → AnchorsGiven
-given r n letters anchors = record { r = r; n = n; buffers = record { letters = letters; anchors = anchors } }
 
 pub put_number-at-requires : goal.put_number-at-requires
 put_number-at-requires c =
-    let a = c.args in
-    omega (arith, bytes-length (given a.r a.n a.letters.now a.anchors.now) (omega arith) (omega arith), c.requires.anchors_in_bounds)
-
-pub slice_bounds-put_number-count : goal.slice_bounds-put_number-count
-slice_bounds-put_number-count c =
-    let a = c.args in
-    let one = kind_along (given a.r a.n a.letters.now a.anchors.now) _ _ c.wide-read.ensures (ap (λ (n : ℕ). per_anchor * n) c.wide-end.ensures) (omega arith) (omega arith)
-    a.out.now c.put_number-at.new.out c.put_number-at.result c.requires.anchors_in_bounds c.put_number-at.ensures.0 c.put_number-at.ensures.1 in
-    omega (arith, along-room one)
-
-pub slice_bounds-put_number-start : goal.slice_bounds-put_number-start
-slice_bounds-put_number-start c =
-    let a = c.args in
-    let one = kind_along (given a.r a.n a.letters.now a.anchors.now) _ _ c.wide-read.ensures (ap (λ (n : ℕ). per_anchor * n) c.wide-end.ensures) (omega arith) (omega arith)
-    a.out.now c.put_number-at.new.out c.put_number-at.result c.requires.anchors_in_bounds c.put_number-at.ensures.0 c.put_number-at.ensures.1 in
-    omega (arith, along-room one)
+    omega (arith, c.requires.room, simp length-append at (ap length (set-bytes c.args.content.now)))
 
 pub put_number-at-requires-2 : goal.put_number-at-requires-2
 put_number-at-requires-2 c =
-    let a = c.args in
-    let one = kind_along (given a.r a.n a.letters.now a.anchors.now) _ _ c.wide-read.ensures (ap (λ (n : ℕ). per_anchor * n) c.wide-end.ensures) (omega arith) (omega arith)
-    a.out.now c.put_number-at.new.out c.put_number-at.result c.requires.anchors_in_bounds c.put_number-at.ensures.0 c.put_number-at.ensures.1 in
-    rw (rest_part, length-drop) (omega (arith, along-fits _ (encode a.r) _ _ _ _ one))
-
-pub overflow_add-at : goal.overflow_add-at
-overflow_add-at c =
-    let a = c.args in
-    let one = kind_along (given a.r a.n a.letters.now a.anchors.now) _ _ c.wide-read.ensures (ap (λ (n : ℕ). per_anchor * n) c.wide-end.ensures) (omega arith) (omega arith)
-    a.out.now c.put_number-at.new.out c.put_number-at.result c.requires.anchors_in_bounds c.put_number-at.ensures.0 c.put_number-at.ensures.1 in
-    let two = along-more _ (encode a.r) _ _ _ _ _ _ one c.put_number-at-2.ensures.0 c.put_number-at-2.ensures.1 in
-    omega (arith, along-room two, along-long two)
-
-pub slice_bounds-put_letters-count : goal.slice_bounds-put_letters-count
-slice_bounds-put_letters-count c =
-    let a = c.args in
-    let one = kind_along (given a.r a.n a.letters.now a.anchors.now) _ _ c.wide-read.ensures (ap (λ (n : ℕ). per_anchor * n) c.wide-end.ensures) (omega arith) (omega arith)
-    a.out.now c.put_number-at.new.out c.put_number-at.result c.requires.anchors_in_bounds c.put_number-at.ensures.0 c.put_number-at.ensures.1 in
-    let two = along-more _ (encode a.r) _ _ _ _ _ _ one c.put_number-at-2.ensures.0 c.put_number-at-2.ensures.1 in
-    omega (arith, along-room two)
-
-pub slice_bounds-put_letters-start : goal.slice_bounds-put_letters-start
-slice_bounds-put_letters-start c =
-    let a = c.args in
-    let one = kind_along (given a.r a.n a.letters.now a.anchors.now) _ _ c.wide-read.ensures (ap (λ (n : ℕ). per_anchor * n) c.wide-end.ensures) (omega arith) (omega arith)
-    a.out.now c.put_number-at.new.out c.put_number-at.result c.requires.anchors_in_bounds c.put_number-at.ensures.0 c.put_number-at.ensures.1 in
-    let two = along-more _ (encode a.r) _ _ _ _ _ _ one c.put_number-at-2.ensures.0 c.put_number-at-2.ensures.1 in
-    omega (arith, along-room two)
-
-pub slice_bounds-put_letters-end-2 : goal.slice_bounds-put_letters-end-2
-slice_bounds-put_letters-end-2 c = sym (length-take-le c.wide-read.result c.args.letters.now (omega arith))
+    let g = c.args.content.now in
+    let h = subst Lent c.content.view_is c.content.invariant in
+    let r : c.content.inside.r ≡ g.r = ap (λ (h : AnchorsGiven). h.r) c.content.view_is in
+    let n : c.content.inside.n ≡ g.n = ap (λ (h : AnchorsGiven). h.n) c.content.view_is in
+    let parts = bytes_parts g (omega (arith, c.requires.few.0, h.letters)) (omega (arith, c.requires.few.1, h.anchors)) in
+    let p1 = c.put_number-at.ensures in
+    let a1 = along-first _ (encode anchor_kind) _ _ _ _ parts c.requires.room p1.0 p1.1 in
+    rw r (along_lent _ _ _ _ _ _ a1)
 
 pub put_letters-at-requires : goal.put_letters-at-requires
 put_letters-at-requires c =
-    let a = c.args in
-    let one = kind_along (given a.r a.n a.letters.now a.anchors.now) _ _ c.wide-read.ensures (ap (λ (n : ℕ). per_anchor * n) c.wide-end.ensures) (omega arith) (omega arith)
-    a.out.now c.put_number-at.new.out c.put_number-at.result c.requires.anchors_in_bounds c.put_number-at.ensures.0 c.put_number-at.ensures.1 in
-    let two = along-more _ (encode a.r) _ _ _ _ _ _ one c.put_number-at-2.ensures.0 c.put_number-at-2.ensures.1 in
-    rw (rest_part, length-drop) (omega (arith, along-fits _ (take c.wide-read.result a.letters.now) _ _ _ _ two))
-
-pub overflow_add-at-2 : goal.overflow_add-at-2
-overflow_add-at-2 c =
-    let a = c.args in
-    let one = kind_along (given a.r a.n a.letters.now a.anchors.now) _ _ c.wide-read.ensures (ap (λ (n : ℕ). per_anchor * n) c.wide-end.ensures) (omega arith) (omega arith)
-    a.out.now c.put_number-at.new.out c.put_number-at.result c.requires.anchors_in_bounds c.put_number-at.ensures.0 c.put_number-at.ensures.1 in
-    let two = along-more _ (encode a.r) _ _ _ _ _ _ one c.put_number-at-2.ensures.0 c.put_number-at-2.ensures.1 in
-    let three = along-more _ (take c.wide-read.result a.letters.now) _ _ _ _ _ _ two c.put_letters-at.ensures.0 c.put_letters-at.ensures.1 in
-    omega (arith, along-room three, along-long three)
-
-pub slice_bounds-put_number-count-2 : goal.slice_bounds-put_number-count-2
-slice_bounds-put_number-count-2 c =
-    let a = c.args in
-    let one = kind_along (given a.r a.n a.letters.now a.anchors.now) _ _ c.wide-read.ensures (ap (λ (n : ℕ). per_anchor * n) c.wide-end.ensures) (omega arith) (omega arith)
-    a.out.now c.put_number-at.new.out c.put_number-at.result c.requires.anchors_in_bounds c.put_number-at.ensures.0 c.put_number-at.ensures.1 in
-    let two = along-more _ (encode a.r) _ _ _ _ _ _ one c.put_number-at-2.ensures.0 c.put_number-at-2.ensures.1 in
-    let three = along-more _ (take c.wide-read.result a.letters.now) _ _ _ _ _ _ two c.put_letters-at.ensures.0 c.put_letters-at.ensures.1 in
-    omega (arith, along-room three)
-
-pub slice_bounds-put_number-start-2 : goal.slice_bounds-put_number-start-2
-slice_bounds-put_number-start-2 c =
-    let a = c.args in
-    let one = kind_along (given a.r a.n a.letters.now a.anchors.now) _ _ c.wide-read.ensures (ap (λ (n : ℕ). per_anchor * n) c.wide-end.ensures) (omega arith) (omega arith)
-    a.out.now c.put_number-at.new.out c.put_number-at.result c.requires.anchors_in_bounds c.put_number-at.ensures.0 c.put_number-at.ensures.1 in
-    let two = along-more _ (encode a.r) _ _ _ _ _ _ one c.put_number-at-2.ensures.0 c.put_number-at-2.ensures.1 in
-    let three = along-more _ (take c.wide-read.result a.letters.now) _ _ _ _ _ _ two c.put_letters-at.ensures.0 c.put_letters-at.ensures.1 in
-    omega (arith, along-room three)
+    let g = c.args.content.now in
+    let h = subst Lent c.content.view_is c.content.invariant in
+    let r : c.content.inside.r ≡ g.r = ap (λ (h : AnchorsGiven). h.r) c.content.view_is in
+    let n : c.content.inside.n ≡ g.n = ap (λ (h : AnchorsGiven). h.n) c.content.view_is in
+    let parts = bytes_parts g (omega (arith, c.requires.few.0, h.letters)) (omega (arith, c.requires.few.1, h.anchors)) in
+    let p1 = c.put_number-at.ensures in
+    let a1 = along-first _ (encode anchor_kind) _ _ _ _ parts c.requires.room p1.0 p1.1 in
+    let p2 = rw r at c.put_number-at-2.ensures in
+    let a2 = along-more _ _ _ _ _ c.put_number-at-2.new.out _ c.put_number-at-2.result a1 p2.0 p2.1 in
+    rw c.read.ensures (along_lent _ _ _ _ _ _ a2)
 
 pub put_number-at-requires-3 : goal.put_number-at-requires-3
 put_number-at-requires-3 c =
-    let a = c.args in
-    let one = kind_along (given a.r a.n a.letters.now a.anchors.now) _ _ c.wide-read.ensures (ap (λ (n : ℕ). per_anchor * n) c.wide-end.ensures) (omega arith) (omega arith)
-    a.out.now c.put_number-at.new.out c.put_number-at.result c.requires.anchors_in_bounds c.put_number-at.ensures.0 c.put_number-at.ensures.1 in
-    let two = along-more _ (encode a.r) _ _ _ _ _ _ one c.put_number-at-2.ensures.0 c.put_number-at-2.ensures.1 in
-    let three = along-more _ (take c.wide-read.result a.letters.now) _ _ _ _ _ _ two c.put_letters-at.ensures.0 c.put_letters-at.ensures.1 in
-    rw (rest_part, length-drop) (omega (arith, along-fits _ (encode a.n) _ _ _ _ three))
-
-pub overflow_add-at-3 : goal.overflow_add-at-3
-overflow_add-at-3 c =
-    let a = c.args in
-    let one = kind_along (given a.r a.n a.letters.now a.anchors.now) _ _ c.wide-read.ensures (ap (λ (n : ℕ). per_anchor * n) c.wide-end.ensures) (omega arith) (omega arith)
-    a.out.now c.put_number-at.new.out c.put_number-at.result c.requires.anchors_in_bounds c.put_number-at.ensures.0 c.put_number-at.ensures.1 in
-    let two = along-more _ (encode a.r) _ _ _ _ _ _ one c.put_number-at-2.ensures.0 c.put_number-at-2.ensures.1 in
-    let three = along-more _ (take c.wide-read.result a.letters.now) _ _ _ _ _ _ two c.put_letters-at.ensures.0 c.put_letters-at.ensures.1 in
-    let four = along_as _ (sym (append-nil _)) (along-more _ (encode a.n) _ _ _ _ _ _ three c.put_number-at-3.ensures.0 c.put_number-at-3.ensures.1) in
-    omega (arith, along-room four, along-long four)
-
-pub slice_bounds-put_numbers-count : goal.slice_bounds-put_numbers-count
-slice_bounds-put_numbers-count c =
-    let a = c.args in
-    let one = kind_along (given a.r a.n a.letters.now a.anchors.now) _ _ c.wide-read.ensures (ap (λ (n : ℕ). per_anchor * n) c.wide-end.ensures) (omega arith) (omega arith)
-    a.out.now c.put_number-at.new.out c.put_number-at.result c.requires.anchors_in_bounds c.put_number-at.ensures.0 c.put_number-at.ensures.1 in
-    let two = along-more _ (encode a.r) _ _ _ _ _ _ one c.put_number-at-2.ensures.0 c.put_number-at-2.ensures.1 in
-    let three = along-more _ (take c.wide-read.result a.letters.now) _ _ _ _ _ _ two c.put_letters-at.ensures.0 c.put_letters-at.ensures.1 in
-    let four = along_as _ (sym (append-nil _)) (along-more _ (encode a.n) _ _ _ _ _ _ three c.put_number-at-3.ensures.0 c.put_number-at-3.ensures.1) in
-    omega (arith, along-room four)
-
-pub slice_bounds-put_numbers-start : goal.slice_bounds-put_numbers-start
-slice_bounds-put_numbers-start c =
-    let a = c.args in
-    let one = kind_along (given a.r a.n a.letters.now a.anchors.now) _ _ c.wide-read.ensures (ap (λ (n : ℕ). per_anchor * n) c.wide-end.ensures) (omega arith) (omega arith)
-    a.out.now c.put_number-at.new.out c.put_number-at.result c.requires.anchors_in_bounds c.put_number-at.ensures.0 c.put_number-at.ensures.1 in
-    let two = along-more _ (encode a.r) _ _ _ _ _ _ one c.put_number-at-2.ensures.0 c.put_number-at-2.ensures.1 in
-    let three = along-more _ (take c.wide-read.result a.letters.now) _ _ _ _ _ _ two c.put_letters-at.ensures.0 c.put_letters-at.ensures.1 in
-    let four = along_as _ (sym (append-nil _)) (along-more _ (encode a.n) _ _ _ _ _ _ three c.put_number-at-3.ensures.0 c.put_number-at-3.ensures.1) in
-    omega (arith, along-room four)
-
-pub slice_bounds-put_numbers-end-2 : goal.slice_bounds-put_numbers-end-2
-slice_bounds-put_numbers-end-2 c = sym (length-take-le (per_anchor * c.wide-end.result) c.args.anchors.now (omega arith))
+    let g = c.args.content.now in
+    let h = subst Lent c.content.view_is c.content.invariant in
+    let r : c.content.inside.r ≡ g.r = ap (λ (h : AnchorsGiven). h.r) c.content.view_is in
+    let n : c.content.inside.n ≡ g.n = ap (λ (h : AnchorsGiven). h.n) c.content.view_is in
+    let parts = bytes_parts g (omega (arith, c.requires.few.0, h.letters)) (omega (arith, c.requires.few.1, h.anchors)) in
+    let p1 = c.put_number-at.ensures in
+    let a1 = along-first _ (encode anchor_kind) _ _ _ _ parts c.requires.room p1.0 p1.1 in
+    let p2 = rw r at c.put_number-at-2.ensures in
+    let a2 = along-more _ _ _ _ _ c.put_number-at-2.new.out _ c.put_number-at-2.result a1 p2.0 p2.1 in
+    let p3 = rw c.read.ensures at c.put_letters-at.ensures in
+    let a3 = along-more _ _ _ _ _ c.put_letters-at.new.out _ c.put_letters-at.result a2 p3.0 p3.1 in
+    rw n (along_lent _ _ _ _ _ _ a3)
 
 pub put_numbers-at-requires : goal.put_numbers-at-requires
 put_numbers-at-requires c =
-    let a = c.args in
-    let one = kind_along (given a.r a.n a.letters.now a.anchors.now) _ _ c.wide-read.ensures (ap (λ (n : ℕ). per_anchor * n) c.wide-end.ensures) (omega arith) (omega arith)
-    a.out.now c.put_number-at.new.out c.put_number-at.result c.requires.anchors_in_bounds c.put_number-at.ensures.0 c.put_number-at.ensures.1 in
-    let two = along-more _ (encode a.r) _ _ _ _ _ _ one c.put_number-at-2.ensures.0 c.put_number-at-2.ensures.1 in
-    let three = along-more _ (take c.wide-read.result a.letters.now) _ _ _ _ _ _ two c.put_letters-at.ensures.0 c.put_letters-at.ensures.1 in
-    let four = along_as _ (sym (append-nil _)) (along-more _ (encode a.n) _ _ _ _ _ _ three c.put_number-at-3.ensures.0 c.put_number-at-3.ensures.1) in
-    rw (rest_part, length-drop) (omega (arith, along-fits _ (encode_numbers (take (per_anchor * c.wide-end.result) a.anchors.now)) _ _ _ _ four))
-
-pub overflow_add-at-4 : goal.overflow_add-at-4
-overflow_add-at-4 c =
-    let a = c.args in
-    let one = kind_along (given a.r a.n a.letters.now a.anchors.now) _ _ c.wide-read.ensures (ap (λ (n : ℕ). per_anchor * n) c.wide-end.ensures) (omega arith) (omega arith)
-    a.out.now c.put_number-at.new.out c.put_number-at.result c.requires.anchors_in_bounds c.put_number-at.ensures.0 c.put_number-at.ensures.1 in
-    let two = along-more _ (encode a.r) _ _ _ _ _ _ one c.put_number-at-2.ensures.0 c.put_number-at-2.ensures.1 in
-    let three = along-more _ (take c.wide-read.result a.letters.now) _ _ _ _ _ _ two c.put_letters-at.ensures.0 c.put_letters-at.ensures.1 in
-    let four = along_as _ (sym (append-nil _)) (along-more _ (encode a.n) _ _ _ _ _ _ three c.put_number-at-3.ensures.0 c.put_number-at-3.ensures.1) in
-    let five = along-more _ (encode_numbers (take (per_anchor * c.wide-end.result) a.anchors.now)) _ _ _ _ _ _ four c.put_numbers-at.ensures.0 c.put_numbers-at.ensures.1 in
-    omega (arith, along-room five, along-long five)
+    let g = c.args.content.now in
+    let h = subst Lent c.content.view_is c.content.invariant in
+    let r : c.content.inside.r ≡ g.r = ap (λ (h : AnchorsGiven). h.r) c.content.view_is in
+    let n : c.content.inside.n ≡ g.n = ap (λ (h : AnchorsGiven). h.n) c.content.view_is in
+    let parts = bytes_parts g (omega (arith, c.requires.few.0, h.letters)) (omega (arith, c.requires.few.1, h.anchors)) in
+    let p1 = c.put_number-at.ensures in
+    let a1 = along-first _ (encode anchor_kind) _ _ _ _ parts c.requires.room p1.0 p1.1 in
+    let p2 = rw r at c.put_number-at-2.ensures in
+    let a2 = along-more _ _ _ _ _ c.put_number-at-2.new.out _ c.put_number-at-2.result a1 p2.0 p2.1 in
+    let p3 = rw c.read.ensures at c.put_letters-at.ensures in
+    let a3 = along-more _ _ _ _ _ c.put_letters-at.new.out _ c.put_letters-at.result a2 p3.0 p3.1 in
+    let p4 = rw n at c.put_number-at-3.ensures in
+    let a4 = along_as _ (sym (append-nil _)) (along-more _ _ _ _ _ c.put_number-at-3.new.out _ c.put_number-at-3.result a3 p4.0 p4.1) in
+    rw c.anchor_numbers.ensures (along_lent _ _ _ _ _ _ a4)
 
 pub returns : goal.returns
 returns c =
-    let a = c.args in
-    let one = kind_along (given a.r a.n a.letters.now a.anchors.now) _ _ c.wide-read.ensures (ap (λ (n : ℕ). per_anchor * n) c.wide-end.ensures) (omega arith) (omega arith)
-    a.out.now c.put_number-at.new.out c.put_number-at.result c.requires.anchors_in_bounds c.put_number-at.ensures.0 c.put_number-at.ensures.1 in
-    let two = along-more _ (encode a.r) _ _ _ _ _ _ one c.put_number-at-2.ensures.0 c.put_number-at-2.ensures.1 in
-    let three = along-more _ (take c.wide-read.result a.letters.now) _ _ _ _ _ _ two c.put_letters-at.ensures.0 c.put_letters-at.ensures.1 in
-    let four = along_as _ (sym (append-nil _)) (along-more _ (encode a.n) _ _ _ _ _ _ three c.put_number-at-3.ensures.0 c.put_number-at-3.ensures.1) in
-    let five = along-more _ (encode_numbers (take (per_anchor * c.wide-end.result) a.anchors.now)) _ _ _ _ _ _ four c.put_numbers-at.ensures.0 c.put_numbers-at.ensures.1 in
-    along-done _ _ _ _ _ five refl
+    let g = c.args.content.now in
+    let h = subst Lent c.content.view_is c.content.invariant in
+    let r : c.content.inside.r ≡ g.r = ap (λ (h : AnchorsGiven). h.r) c.content.view_is in
+    let n : c.content.inside.n ≡ g.n = ap (λ (h : AnchorsGiven). h.n) c.content.view_is in
+    let parts = bytes_parts g (omega (arith, c.requires.few.0, h.letters)) (omega (arith, c.requires.few.1, h.anchors)) in
+    let p1 = c.put_number-at.ensures in
+    let a1 = along-first _ (encode anchor_kind) _ _ _ _ parts c.requires.room p1.0 p1.1 in
+    let p2 = rw r at c.put_number-at-2.ensures in
+    let a2 = along-more _ _ _ _ _ c.put_number-at-2.new.out _ c.put_number-at-2.result a1 p2.0 p2.1 in
+    let p3 = rw c.read.ensures at c.put_letters-at.ensures in
+    let a3 = along-more _ _ _ _ _ c.put_letters-at.new.out _ c.put_letters-at.result a2 p3.0 p3.1 in
+    let p4 = rw n at c.put_number-at-3.ensures in
+    let a4 = along_as _ (sym (append-nil _)) (along-more _ _ _ _ _ c.put_number-at-3.new.out _ c.put_number-at-3.result a3 p4.0 p4.1) in
+    let p5 = rw c.anchor_numbers.ensures at c.put_numbers-at.ensures in
+    let a5 = along-more _ _ _ _ _ c.put_numbers-at.new.out _ c.put_numbers-at.result a4 p5.0 p5.1 in
+    along-done _ _ _ _ _ a5 refl

@@ -1,16 +1,17 @@
-use mathlib.Core.Path.{refl, sym, ◌∙◌}
-use native.Mathlib.Omega.{arith}
-use Rattle.anchors_letters.proofs.LetterLaws.{agree-none, agree-not, agree-more}
+use Prim.Native.Nat.{ℕ}
+use mathlib.Core.Path.{◌∙◌}
+use borrow.Author.Tests.{tests}
+use Rattle.std.proofs.Common.{rules}
+use Rattle.std.proofs.lemmas.Iterator.{YieldsList-from_slice, YieldsList-from_zip}
+use Rattle.std.proofs.lemmas.Iterator.Search.{all_from_yields_List}
+use Rattle.wire.specs.Letters.{agree}
+use Rattle.anchors_letters.proofs.LetterLaws.{agree_pairs}
 use Rattle.anchors_letters.proofs.parts_agree.Goals as goal
 
-pub loop-left-init : goal.loop-left-init
-loop-left-init c = (refl, omega arith, omega arith)
-
-pub returns-then-not-letters_agree : goal.returns-then-not-letters_agree
-returns-then-not-letters_agree c = let l = c.loop-left in let a = c.args in sym (l.invariant.0 ∙ agree-not a.graph.now l.g a.file.now l.f l.left (omega arith) (sym c.letters_agree.ensures ∙ c.if-not-letters_agree.true))
-
-pub loop-left-preserved : goal.loop-left-preserved
-loop-left-preserved c = let l = c.loop-left in let a = c.args in (l.invariant.0 ∙ agree-more a.graph.now l.g a.file.now l.f l.left (omega arith) (sym c.letters_agree.ensures ∙ c.if-not-letters_agree.false), omega arith, omega arith)
-
 pub returns : goal.returns
-returns c = let l = c.loop-left in let a = c.args in sym (l.invariant.0 ∙ agree-none a.graph.now l.g a.file.now l.f l.left (omega arith))
+returns c =
+    let a = c.args in
+    all_from_yields_List (λ (p : ℕ × ℕ). agree p.0 p.1) c.all.new.self _ _ c.all.ensures.ran
+    (YieldsList-from_zip (YieldsList-from_slice c.args.label.now cc) (YieldsList-from_slice c.args.read.now cc))
+    (λ x b q k. search (rules, tests))
+    ∙ agree_pairs a.label.now a.read.now c.requires

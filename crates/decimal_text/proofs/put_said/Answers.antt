@@ -15,20 +15,10 @@ slice_bounds-put_decimal-count c =
     let along = along-first _ c.args.word.now (decimal c.args.n) _ _ _ refl c.requires c.put_letters-at.ensures.0 c.put_letters-at.ensures.1 in
     omega (arith, along-room along)
 
-pub slice_bounds-put_decimal-start : goal.slice_bounds-put_decimal-start
-slice_bounds-put_decimal-start c =
-    let along = along-first _ c.args.word.now (decimal c.args.n) _ _ _ refl c.requires c.put_letters-at.ensures.0 c.put_letters-at.ensures.1 in
-    omega (arith, along-room along)
-
 pub put_decimal-at-requires : goal.put_decimal-at-requires
 put_decimal-at-requires c =
     let along = along-first _ c.args.word.now (decimal c.args.n) _ _ _ refl c.requires c.put_letters-at.ensures.0 c.put_letters-at.ensures.1 in
     rw (rest_part, length-drop) (omega (arith, along-room along))
-
-pub overflow_add-at : goal.overflow_add-at
-overflow_add-at c =
-    let along = along-first _ c.args.word.now (decimal c.args.n) _ _ _ refl c.requires c.put_letters-at.ensures.0 c.put_letters-at.ensures.1 in
-    omega (arith, along-room along, c.put_decimal-at.ensures.0)
 
 pub returns : goal.returns
 returns c =

@@ -1,110 +1,105 @@
-use lib.Seq.{length-take-le}
-use native.Mathlib.Omega.{arith}
-use Prim.Native.Nat.{ℕ, ◌≤◌, ◌*◌}
-use mathlib.Core.Path.{◌≡◌, sym, ap, ◌∙◌}
-use mathlib.Core.List.{List}
-use lib.ListN.{length}
+use Rattle.std.proofs.Common.{ℕ, List, ◌*◌, ap, ◌∙◌, length, arith}
 use Rattle.wire.specs.Sizes.{graph_kind}
 use Rattle.wire.proofs.Encoding.{encode_most}
 use Rattle.graph.specs.Encode.{encode_numbers}
-use Rattle.graph.specs.Entries.{numbers_in}
-use Rattle.graph_content.specs.Used.{given_of}
-use Rattle.graph_content.proofs.Encoded.{numbers_part, numbers_most, length-numbers, graph-length}
-use Rattle.graph_content.proofs.Sound.{Sound, sound}
+use Rattle.graph.specs.Entries.{Given, numbers_in}
+use Rattle.graph_content.proofs.Encoded.{numbers_most, length-numbers, graph-length}
+use Rattle.graph_content.proofs.Sound.{sound}
 use Rattle.graph_file_bytes.proofs.graph_size.Goals as goal
 
--- src/lib.rt:122:18
 pub overflow_add-labels : goal.overflow_add-labels
-overflow_add-labels c = omega (arith, encode_most graph_kind, encode_most c.args.n)
+overflow_add-labels c =
+    let v = c.content.view_is in
+    let n = encode_most c.content.inside.n in
+    let m = encode_most c.content.inside.m in
+    let k = encode_most c.content.inside.k in
+    let kind = encode_most graph_kind in
+    omega arith
 
--- src/lib.rt:122:61
 pub labels_size-requires : goal.labels_size-requires
 labels_size-requires c =
-    let sure : Sound (given_of c.args.n c.args.m c.args.k c.args.letters.now c.args.lengths.now c.args.edges.now c.args.paths.now c.args.counts.now) =
-    sound (given_of c.args.n c.args.m c.args.k c.args.letters.now c.args.lengths.now c.args.edges.now c.args.paths.now c.args.counts.now) c.requires.counts_value in
-    let h = sure in (h.few_vertices, omega arith)
+    (sound c.args.content.now c.requires.faultless).few_vertices
 
--- src/lib.rt:122:18
 pub overflow_add-labels-2 : goal.overflow_add-labels-2
-overflow_add-labels-2 c = omega (arith, encode_most graph_kind, encode_most c.args.n)
+overflow_add-labels-2 c =
+    let v = c.content.view_is in
+    let n = encode_most c.content.inside.n in
+    let m = encode_most c.content.inside.m in
+    let k = encode_most c.content.inside.k in
+    let kind = encode_most graph_kind in
+    omega arith
 
--- src/lib.rt:123:53
-pub slice_bounds-numbers_size-end : goal.slice_bounds-numbers_size-end
-slice_bounds-numbers_size-end c =
-    let sure : Sound (given_of c.args.n c.args.m c.args.k c.args.letters.now c.args.lengths.now c.args.edges.now c.args.paths.now c.args.counts.now) =
-    sound (given_of c.args.n c.args.m c.args.k c.args.letters.now c.args.lengths.now c.args.edges.now c.args.paths.now c.args.counts.now) c.requires.counts_value in
-    let h = sure in sym (length-take-le (2 * c.args.m) c.args.edges.now (omega arith))
+pub edge_numbers-requires : goal.edge_numbers-requires
+edge_numbers-requires c =
+    (sound c.args.content.now c.requires.faultless).few_edges
 
--- src/lib.rt:123:17
 pub overflow_add-edges : goal.overflow_add-edges
 overflow_add-edges c =
-    let sure : Sound (given_of c.args.n c.args.m c.args.k c.args.letters.now c.args.lengths.now c.args.edges.now c.args.paths.now c.args.counts.now) =
-    sound (given_of c.args.n c.args.m c.args.k c.args.letters.now c.args.lengths.now c.args.edges.now c.args.paths.now c.args.counts.now) c.requires.counts_value in
-    let edge-bytes : (c.numbers_size.result ≡ length (encode_numbers (numbers_in (2 * c.args.m) 0 c.args.edges.now))) × (c.numbers_size.result ≤ 40960) =
-    let a = c.args in
-    let h = sure in
-    let e = c.numbers_size.ensures ∙ ap (λ (t : List ℕ). length (encode_numbers t)) (numbers_part (2 * a.m) 0 a.edges.now (omega arith)) in
-    let n = numbers_most (numbers_in (2 * a.m) 0 a.edges.now) in
-    (e, omega (arith, length-numbers (2 * a.m) 0 a.edges.now)) in
-    omega (arith, edge-bytes, encode_most c.args.m)
+    let g = c.args.content.now in
+    let sure = sound g c.requires.faultless in
+    let v = c.content.view_is in
+    let n = encode_most c.content.inside.n in
+    let m = encode_most c.content.inside.m in
+    let k = encode_most c.content.inside.k in
+    let kind = encode_most graph_kind in
+    let e = c.numbers_size.ensures ∙ ap (λ (t : List ℕ). length (encode_numbers t)) c.edge_numbers.ensures in
+    let most = numbers_most (numbers_in (2 * g.m) 0 g.buffers.edges) in
+    let many = length-numbers (2 * g.m) 0 g.buffers.edges in
+    omega (arith, sure.few_edges)
 
--- src/lib.rt:124:5
 pub overflow_add-result : goal.overflow_add-result
 overflow_add-result c =
-    let sure : Sound (given_of c.args.n c.args.m c.args.k c.args.letters.now c.args.lengths.now c.args.edges.now c.args.paths.now c.args.counts.now) =
-    sound (given_of c.args.n c.args.m c.args.k c.args.letters.now c.args.lengths.now c.args.edges.now c.args.paths.now c.args.counts.now) c.requires.counts_value in
-    let edge-bytes : (c.numbers_size.result ≡ length (encode_numbers (numbers_in (2 * c.args.m) 0 c.args.edges.now))) × (c.numbers_size.result ≤ 40960) =
-    let a = c.args in
-    let h = sure in
-    let e = c.numbers_size.ensures ∙ ap (λ (t : List ℕ). length (encode_numbers t)) (numbers_part (2 * a.m) 0 a.edges.now (omega arith)) in
-    let n = numbers_most (numbers_in (2 * a.m) 0 a.edges.now) in
-    (e, omega (arith, length-numbers (2 * a.m) 0 a.edges.now)) in
-    omega (arith, edge-bytes, encode_most c.args.m, encode_most graph_kind, encode_most c.args.n)
+    let g = c.args.content.now in
+    let sure = sound g c.requires.faultless in
+    let v = c.content.view_is in
+    let n = encode_most c.content.inside.n in
+    let m = encode_most c.content.inside.m in
+    let k = encode_most c.content.inside.k in
+    let kind = encode_most graph_kind in
+    let e = c.numbers_size.ensures ∙ ap (λ (t : List ℕ). length (encode_numbers t)) c.edge_numbers.ensures in
+    let most = numbers_most (numbers_in (2 * g.m) 0 g.buffers.edges) in
+    let many = length-numbers (2 * g.m) 0 g.buffers.edges in
+    omega (arith, sure.few_edges)
 
--- src/lib.rt:124:5
 pub overflow_add-result-2 : goal.overflow_add-result-2
 overflow_add-result-2 c =
-    let sure : Sound (given_of c.args.n c.args.m c.args.k c.args.letters.now c.args.lengths.now c.args.edges.now c.args.paths.now c.args.counts.now) =
-    sound (given_of c.args.n c.args.m c.args.k c.args.letters.now c.args.lengths.now c.args.edges.now c.args.paths.now c.args.counts.now) c.requires.counts_value in
-    let edge-bytes : (c.numbers_size.result ≡ length (encode_numbers (numbers_in (2 * c.args.m) 0 c.args.edges.now))) × (c.numbers_size.result ≤ 40960) =
-    let a = c.args in
-    let h = sure in
-    let e = c.numbers_size.ensures ∙ ap (λ (t : List ℕ). length (encode_numbers t)) (numbers_part (2 * a.m) 0 a.edges.now (omega arith)) in
-    let n = numbers_most (numbers_in (2 * a.m) 0 a.edges.now) in
-    (e, omega (arith, length-numbers (2 * a.m) 0 a.edges.now)) in
-    omega (arith, edge-bytes, encode_most c.args.m, encode_most graph_kind, encode_most c.args.n, encode_most c.args.k)
+    let g = c.args.content.now in
+    let sure = sound g c.requires.faultless in
+    let v = c.content.view_is in
+    let n = encode_most c.content.inside.n in
+    let m = encode_most c.content.inside.m in
+    let k = encode_most c.content.inside.k in
+    let kind = encode_most graph_kind in
+    let e = c.numbers_size.ensures ∙ ap (λ (t : List ℕ). length (encode_numbers t)) c.edge_numbers.ensures in
+    let most = numbers_most (numbers_in (2 * g.m) 0 g.buffers.edges) in
+    let many = length-numbers (2 * g.m) 0 g.buffers.edges in
+    omega (arith, sure.few_edges)
 
--- src/lib.rt:124:39
 pub paths_size-requires : goal.paths_size-requires
 paths_size-requires c =
-    let sure : Sound (given_of c.args.n c.args.m c.args.k c.args.letters.now c.args.lengths.now c.args.edges.now c.args.paths.now c.args.counts.now) =
-    sound (given_of c.args.n c.args.m c.args.k c.args.letters.now c.args.lengths.now c.args.edges.now c.args.paths.now c.args.counts.now) c.requires.counts_value in
-    let h = sure in (h.few_paths, omega arith, omega arith, h.roomed)
+    let sure = sound c.args.content.now c.requires.faultless in
+    (sure.few_paths, sure.roomed)
 
--- src/lib.rt:124:5
 pub overflow_add-result-3 : goal.overflow_add-result-3
 overflow_add-result-3 c =
-    let sure : Sound (given_of c.args.n c.args.m c.args.k c.args.letters.now c.args.lengths.now c.args.edges.now c.args.paths.now c.args.counts.now) =
-    sound (given_of c.args.n c.args.m c.args.k c.args.letters.now c.args.lengths.now c.args.edges.now c.args.paths.now c.args.counts.now) c.requires.counts_value in
-    let edge-bytes : (c.numbers_size.result ≡ length (encode_numbers (numbers_in (2 * c.args.m) 0 c.args.edges.now))) × (c.numbers_size.result ≤ 40960) =
-    let a = c.args in
-    let h = sure in
-    let e = c.numbers_size.ensures ∙ ap (λ (t : List ℕ). length (encode_numbers t)) (numbers_part (2 * a.m) 0 a.edges.now (omega arith)) in
-    let n = numbers_most (numbers_in (2 * a.m) 0 a.edges.now) in
-    (e, omega (arith, length-numbers (2 * a.m) 0 a.edges.now)) in
-    omega (arith, edge-bytes, encode_most c.args.m, encode_most graph_kind, encode_most c.args.n, encode_most c.args.k)
+    let g = c.args.content.now in
+    let sure = sound g c.requires.faultless in
+    let v = c.content.view_is in
+    let n = encode_most c.content.inside.n in
+    let m = encode_most c.content.inside.m in
+    let k = encode_most c.content.inside.k in
+    let kind = encode_most graph_kind in
+    let e = c.numbers_size.ensures ∙ ap (λ (t : List ℕ). length (encode_numbers t)) c.edge_numbers.ensures in
+    let most = numbers_most (numbers_in (2 * g.m) 0 g.buffers.edges) in
+    let many = length-numbers (2 * g.m) 0 g.buffers.edges in
+    omega (arith, sure.few_edges)
 
--- src/lib.rt:104:1
 pub returns : goal.returns
 returns c =
-    let sure : Sound (given_of c.args.n c.args.m c.args.k c.args.letters.now c.args.lengths.now c.args.edges.now c.args.paths.now c.args.counts.now) =
-    sound (given_of c.args.n c.args.m c.args.k c.args.letters.now c.args.lengths.now c.args.edges.now c.args.paths.now c.args.counts.now) c.requires.counts_value in
-    let edge-bytes : (c.numbers_size.result ≡ length (encode_numbers (numbers_in (2 * c.args.m) 0 c.args.edges.now))) × (c.numbers_size.result ≤ 40960) =
-    let a = c.args in
-    let h = sure in
-    let e = c.numbers_size.ensures ∙ ap (λ (t : List ℕ). length (encode_numbers t)) (numbers_part (2 * a.m) 0 a.edges.now (omega arith)) in
-    let n = numbers_most (numbers_in (2 * a.m) 0 a.edges.now) in
-    (e, omega (arith, length-numbers (2 * a.m) 0 a.edges.now)) in
-    let e = graph-length (given_of c.args.n c.args.m c.args.k c.args.letters.now c.args.lengths.now c.args.edges.now c.args.paths.now c.args.counts.now) in
-    let b = edge-bytes in
-    omega arith
+    let g = c.args.content.now in
+    let e = c.numbers_size.ensures ∙ ap (λ (t : List ℕ). length (encode_numbers t)) c.edge_numbers.ensures in
+    let v = c.content.view_is in
+    let n = rw (ap (λ (h : Given). h.n) v) at c.group_count-2.ensures in
+    let m = rw (ap (λ (h : Given). h.m) v) at c.group_count-3.ensures in
+    let k = rw (ap (λ (h : Given). h.k) v) at c.group_count-4.ensures in
+    omega (arith, e, n, m, k, graph-length g)

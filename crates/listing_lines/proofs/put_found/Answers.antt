@@ -6,6 +6,3 @@ use Rattle.listing_lines.proofs.put_found.Goals as goal
 pub put_told-requires : goal.put_told-requires
 put_told-requires c =
     le_trans (told_most _ _ _ _ _ _ (omega arith) (omega arith) (omega arith) (omega arith) (omega arith) (omega arith)) c.requires
-
-pub returns : goal.returns
-returns c = c.put_told.ensures

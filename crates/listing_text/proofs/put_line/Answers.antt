@@ -1,12 +1,11 @@
-use Prim.Native.Nat.{ℕ, ◌+◌, ◌-◌}
-use mathlib.Core.Path.{◌≡◌, refl, ap, ◌∙◌}
+use Prim.Native.Nat.{ℕ, ◌+◌, ◌-◌, ◌≤◌}
+use mathlib.Core.Path.{◌≡◌, refl, sym, subst}
 use mathlib.Core.List.{List, ◌++◌}
-use lib.ListN.{length, length-append, length-drop}
+use lib.ListN.{length, length-append}
 use native.Mathlib.Omega.{arith}
 use borrow.Rule.Slice.PartMut.{mid_of, put_mid}
 use Rattle.wire.specs.Lent.{front}
-use Rattle.wire.proofs.Rest.{rest_part}
-use Rattle.graph_bytes.proofs.Along.{Along, along-first, along-fits, along-room, along-long, along-more}
+use Rattle.graph_bytes.proofs.Along.{Along, along-first, along_lent, along-room, along-within, along-more}
 use Rattle.decimal_text.specs.Decimal.{decimal}
 use Rattle.decimal_text.specs.Words.{line_end}
 use Rattle.anchor_row.specs.Row.{row_in}
@@ -14,78 +13,49 @@ use Rattle.listing_text.specs.Lines.{spaced, anchor_line, line_in}
 use Rattle.decimal_text.proofs.Ending.{along_byte}
 use Rattle.listing_text.proofs.put_line.Goals as goal
 
+module _ (numbers scores : List ℕ) (j : ℕ) where
+  parts : line_in numbers scores j ≡ decimal j ++ (spaced (row_in numbers scores j) ++ line_end)
+  unfolding anchor_line
+  parts = refl
+
+  -- the number is written
+  first : (old out : List ℕ) (n : ℕ) → length (line_in numbers scores j) ≤ length old → n ≡ length (decimal j) → out ≡ front (decimal j) old
+      → Along (line_in numbers scores j) (spaced (row_in numbers scores j) ++ line_end) old out n
+  first old out n h e p = along-first _ (decimal j) _ old out n parts h e p
+
+  -- and the row, which is r
+  second : (r old out part : List ℕ) (at n : ℕ) → r ≡ row_in numbers scores j → Along (line_in numbers scores j) (spaced (row_in numbers scores j) ++ line_end) old out at
+      → n ≡ length (spaced r) → part ≡ front (spaced r) (mid_of at (length out - at) out)
+      → Along (line_in numbers scores j) line_end old (put_mid at (length out - at) out part) (at + n)
+  second r old out part at n s a = subst (λ (t : List ℕ). n ≡ length (spaced t) → part ≡ front (spaced t) (mid_of at (length out - at) out)
+      → Along (line_in numbers scores j) line_end old (put_mid at (length out - at) out part) (at + n)) (sym s) (along-more _ _ _ old out part at n a)
+
 pub row_of-row-requires : goal.row_of-row-requires
 row_of-row-requires c = c.requires.held_at
 
 pub put_decimal-at-requires : goal.put_decimal-at-requires
 put_decimal-at-requires c =
-    let parts : (line_in c.args.numbers.now c.args.scores.now c.args.number) ≡ decimal c.args.number ++ ((spaced (row_in c.args.numbers.now c.args.scores.now c.args.number)) ++ line_end) =
-    unfold anchor_line in refl in
-    omega (arith, c.requires.number_in_bounds, ap length parts ∙ length-append (decimal c.args.number) ((spaced (row_in c.args.numbers.now c.args.scores.now c.args.number)) ++ line_end))
+    let a = c.args.anchors.now in
+    let h : length (decimal c.args.number ++ (spaced (row_in a.numbers.now a.scores.now c.args.number) ++ line_end)) ≤ length c.args.out.now =
+    subst (λ (t : List ℕ). length t ≤ length c.args.out.now) (parts a.numbers.now a.scores.now c.args.number) c.requires.number_in_bounds in
+    omega (arith, simp length-append at h)
 
 pub slice_bounds-put_row-count : goal.slice_bounds-put_row-count
-slice_bounds-put_row-count c =
-    let parts : (line_in c.args.numbers.now c.args.scores.now c.args.number) ≡ decimal c.args.number ++ ((spaced (row_in c.args.numbers.now c.args.scores.now c.args.number)) ++ line_end) =
-    unfold anchor_line in refl in
-    let along1 = along-first _ (decimal c.args.number) _ _ _ _ parts c.requires.number_in_bounds c.put_decimal-at.ensures.0 c.put_decimal-at.ensures.1 in
-    omega (arith, along-room along1)
-
-pub slice_bounds-put_row-start : goal.slice_bounds-put_row-start
-slice_bounds-put_row-start c =
-    let parts : (line_in c.args.numbers.now c.args.scores.now c.args.number) ≡ decimal c.args.number ++ ((spaced (row_in c.args.numbers.now c.args.scores.now c.args.number)) ++ line_end) =
-    unfold anchor_line in refl in
-    let along1 = along-first _ (decimal c.args.number) _ _ _ _ parts c.requires.number_in_bounds c.put_decimal-at.ensures.0 c.put_decimal-at.ensures.1 in
-    omega (arith, along-room along1)
+slice_bounds-put_row-count c = along-within (first _ _ _ _ _ _ c.requires.number_in_bounds c.put_decimal-at.ensures.0 c.put_decimal-at.ensures.1)
 
 pub put_row-at-requires : goal.put_row-at-requires
 put_row-at-requires c =
-    let parts : (line_in c.args.numbers.now c.args.scores.now c.args.number) ≡ decimal c.args.number ++ ((spaced (row_in c.args.numbers.now c.args.scores.now c.args.number)) ++ line_end) =
-    unfold anchor_line in refl in
-    let along1 = along-first _ (decimal c.args.number) _ _ _ _ parts c.requires.number_in_bounds c.put_decimal-at.ensures.0 c.put_decimal-at.ensures.1 in
-    let e = ap (λ (t : List ℕ). length (spaced t)) c.row_of-row.ensures in
-    let y = ap length (rest_part c.put_decimal-at.result c.put_decimal-at.new.out) ∙ length-drop c.put_decimal-at.result c.put_decimal-at.new.out in
-    omega (arith, along-fits _ (spaced (row_in c.args.numbers.now c.args.scores.now c.args.number)) _ _ _ _ along1)
-
-pub overflow_add-at : goal.overflow_add-at
-overflow_add-at c =
-    let parts : (line_in c.args.numbers.now c.args.scores.now c.args.number) ≡ decimal c.args.number ++ ((spaced (row_in c.args.numbers.now c.args.scores.now c.args.number)) ++ line_end) =
-    unfold anchor_line in refl in
-    let along1 = along-first _ (decimal c.args.number) _ _ _ _ parts c.requires.number_in_bounds c.put_decimal-at.ensures.0 c.put_decimal-at.ensures.1 in
-    let along2 : Along (line_in c.args.numbers.now c.args.scores.now c.args.number) line_end c.args.out.now (put_mid c.put_decimal-at.result (length c.put_decimal-at.new.out - c.put_decimal-at.result) c.put_decimal-at.new.out c.put_row-at.new.out) (c.put_decimal-at.result + c.put_row-at.result) =
-    let e = c.row_of-row.ensures in
-    along-more _ (spaced (row_in c.args.numbers.now c.args.scores.now c.args.number)) line_end _ c.put_decimal-at.new.out c.put_row-at.new.out c.put_decimal-at.result c.put_row-at.result along1 (c.put_row-at.ensures.0 ∙ ap (λ (t : List ℕ). length (spaced t)) e)
-    (c.put_row-at.ensures.1 ∙ ap (λ (t : List ℕ). front (spaced t) (mid_of c.put_decimal-at.result (length c.put_decimal-at.new.out - c.put_decimal-at.result) c.put_decimal-at.new.out)) e) in
-    omega (arith, along-room along2, along-long along2)
+    let a = first _ _ _ _ _ _ c.requires.number_in_bounds c.put_decimal-at.ensures.0 c.put_decimal-at.ensures.1 in
+    rw c.row_of-row.ensures (along_lent _ _ line_end _ _ _ a)
 
 pub bounds-out-at : goal.bounds-out-at
 bounds-out-at c =
-    let parts : (line_in c.args.numbers.now c.args.scores.now c.args.number) ≡ decimal c.args.number ++ ((spaced (row_in c.args.numbers.now c.args.scores.now c.args.number)) ++ line_end) =
-    unfold anchor_line in refl in
-    let along1 = along-first _ (decimal c.args.number) _ _ _ _ parts c.requires.number_in_bounds c.put_decimal-at.ensures.0 c.put_decimal-at.ensures.1 in
-    let along2 : Along (line_in c.args.numbers.now c.args.scores.now c.args.number) line_end c.args.out.now (put_mid c.put_decimal-at.result (length c.put_decimal-at.new.out - c.put_decimal-at.result) c.put_decimal-at.new.out c.put_row-at.new.out) (c.put_decimal-at.result + c.put_row-at.result) =
-    let e = c.row_of-row.ensures in
-    along-more _ (spaced (row_in c.args.numbers.now c.args.scores.now c.args.number)) line_end _ c.put_decimal-at.new.out c.put_row-at.new.out c.put_decimal-at.result c.put_row-at.result along1 (c.put_row-at.ensures.0 ∙ ap (λ (t : List ℕ). length (spaced t)) e)
-    (c.put_row-at.ensures.1 ∙ ap (λ (t : List ℕ). front (spaced t) (mid_of c.put_decimal-at.result (length c.put_decimal-at.new.out - c.put_decimal-at.result) c.put_decimal-at.new.out)) e) in
-    omega (arith, along-room along2)
-
-pub overflow_add-result : goal.overflow_add-result
-overflow_add-result c =
-    let parts : (line_in c.args.numbers.now c.args.scores.now c.args.number) ≡ decimal c.args.number ++ ((spaced (row_in c.args.numbers.now c.args.scores.now c.args.number)) ++ line_end) =
-    unfold anchor_line in refl in
-    let along1 = along-first _ (decimal c.args.number) _ _ _ _ parts c.requires.number_in_bounds c.put_decimal-at.ensures.0 c.put_decimal-at.ensures.1 in
-    let along2 : Along (line_in c.args.numbers.now c.args.scores.now c.args.number) line_end c.args.out.now (put_mid c.put_decimal-at.result (length c.put_decimal-at.new.out - c.put_decimal-at.result) c.put_decimal-at.new.out c.put_row-at.new.out) (c.put_decimal-at.result + c.put_row-at.result) =
-    let e = c.row_of-row.ensures in
-    along-more _ (spaced (row_in c.args.numbers.now c.args.scores.now c.args.number)) line_end _ c.put_decimal-at.new.out c.put_row-at.new.out c.put_decimal-at.result c.put_row-at.result along1 (c.put_row-at.ensures.0 ∙ ap (λ (t : List ℕ). length (spaced t)) e)
-    (c.put_row-at.ensures.1 ∙ ap (λ (t : List ℕ). front (spaced t) (mid_of c.put_decimal-at.result (length c.put_decimal-at.new.out - c.put_decimal-at.result) c.put_decimal-at.new.out)) e) in
-    omega (arith, along-room along2, along-long along2)
+    let a = first _ _ _ _ _ _ c.requires.number_in_bounds c.put_decimal-at.ensures.0 c.put_decimal-at.ensures.1 in
+    let b = second _ _ _ _ _ _ _ _ _ c.row_of-row.ensures a c.put_row-at.ensures.0 c.put_row-at.ensures.1 in
+    omega (arith, along-room b)
 
 pub returns : goal.returns
 returns c =
-    let parts : (line_in c.args.numbers.now c.args.scores.now c.args.number) ≡ decimal c.args.number ++ ((spaced (row_in c.args.numbers.now c.args.scores.now c.args.number)) ++ line_end) =
-    unfold anchor_line in refl in
-    let along1 = along-first _ (decimal c.args.number) _ _ _ _ parts c.requires.number_in_bounds c.put_decimal-at.ensures.0 c.put_decimal-at.ensures.1 in
-    let along2 : Along (line_in c.args.numbers.now c.args.scores.now c.args.number) line_end c.args.out.now (put_mid c.put_decimal-at.result (length c.put_decimal-at.new.out - c.put_decimal-at.result) c.put_decimal-at.new.out c.put_row-at.new.out) (c.put_decimal-at.result + c.put_row-at.result) =
-    let e = c.row_of-row.ensures in
-    along-more _ (spaced (row_in c.args.numbers.now c.args.scores.now c.args.number)) line_end _ c.put_decimal-at.new.out c.put_row-at.new.out c.put_decimal-at.result c.put_row-at.result along1 (c.put_row-at.ensures.0 ∙ ap (λ (t : List ℕ). length (spaced t)) e)
-    (c.put_row-at.ensures.1 ∙ ap (λ (t : List ℕ). front (spaced t) (mid_of c.put_decimal-at.result (length c.put_decimal-at.new.out - c.put_decimal-at.result) c.put_decimal-at.new.out)) e) in
-    along_byte _ _ _ _ _ along2
+    let a = first _ _ _ _ _ _ c.requires.number_in_bounds c.put_decimal-at.ensures.0 c.put_decimal-at.ensures.1 in
+    let b = second _ _ _ _ _ _ _ _ _ c.row_of-row.ensures a c.put_row-at.ensures.0 c.put_row-at.ensures.1 in
+    along_byte _ _ _ _ _ b

@@ -1,11 +1,10 @@
-use Prim.Native.Nat.{◌-◌, ◌≤◌}
-use lib.ListN.{length, drop}
+use mathlib.Core.List.{[], ◌++◌}
+use lib.ListN.{drop}
 use Rattle.graph_bytes.proofs.Along.{Along}
 use Rattle.listing_text.specs.Lines.{lines_in}
 use Rattle.listing_text.proofs.put_lines.Given as goal
 
-abbrev pub invariant-loop-i : goal.invariant-loop-i
-invariant-loop-i l = Along (lines_in l.numbers l.scores l.chain) (lines_in l.numbers l.scores (drop l.i l.chain)) l.initial.out l.out l.at × (l.i ≤ length l.chain)
-
-abbrev pub decreases-loop-i : goal.decreases-loop-i
-decreases-loop-i l = length l.chain - l.i
+abbrev pub invariant-loop-number : goal.invariant-loop-number
+invariant-loop-number l =
+    let lines = lines_in l.anchors.numbers.now l.anchors.scores.now in
+    Along (lines l.chain) (lines (drop l.number-index l.chain) ++ []) l.initial.out l.out l.at

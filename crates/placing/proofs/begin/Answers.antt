@@ -7,7 +7,7 @@ pub returns-then-not-roomy : goal.returns-then-not-roomy
 returns-then-not-roomy c =
     let room : roomy_chain (record { scores = c.args.scores.now; chain = c.args.chain.now }) ≡ c.roomy.result =
     unfold roomy_chain in sym c.roomy.ensures in
-    small_begun _ _ (record { scores = c.args.scores.now; chain = c.args.chain.now }) _ (room ∙ c.if-not-roomy.true)
+    rw c.from.ensures (small_begun _ _ (record { scores = c.args.scores.now; chain = c.args.chain.now }) _ (room ∙ c.if-not-roomy.true))
 
 pub returns : goal.returns
 returns c =

@@ -1,13 +1,7 @@
-use mathlib.Core.Path.{refl, sym, ◌∙◌}
+use mathlib.Core.Path.{sym, ◌∙◌}
 use native.Mathlib.Omega.{arith}
 use Rattle.steps.proofs.RowTurns.{back_end, back_turn, fits-vertex, fits_sum, fits_turn}
 use Rattle.row_parts.proofs.back_along.Goals as goal
-
-pub loop-a-init : goal.loop-a-init
-loop-a-init c = (refl, c.requires, refl)
-
-pub bounds-path-a : goal.bounds-path-a
-bounds-path-a c = let f = c.loop-a.invariant.1.room in omega arith
 
 pub put_nearer-requires : goal.put_nearer-requires
 put_nearer-requires c =

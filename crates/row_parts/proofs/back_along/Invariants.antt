@@ -7,6 +7,3 @@ use Rattle.row_parts.proofs.back_along.Given as goal
 abbrev pub invariant-loop-a : goal.invariant-loop-a
 invariant-loop-a l =
     (length l.row ≡ length l.initial.row) × BackFits (length l.initial.row) l.lengths l.path l.a l.sum × (back_in l.lengths l.path l.from l.far l.initial.row ≡ back_in l.lengths l.path l.a l.sum l.row)
-
-abbrev pub decreases-loop-a : goal.decreases-loop-a
-decreases-loop-a l = l.a

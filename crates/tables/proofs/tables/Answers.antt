@@ -4,11 +4,13 @@ use Rattle.graph.specs.Entries.{Buffers}
 use Rattle.graph_read.proofs.Replying.{Full}
 use Rattle.graph_read.proofs.Outcome.{Accepts, number-zero, number-some}
 use Rattle.cover.specs.TableEntries.{TableBuffers, roomy_tables, room_for_tables}
-use Rattle.tables_make.proofs.Rooms.{room-long}
+use Rattle.wire_lent.proofs.Rooms.{room-long}
 use Rattle.tables.proofs.Tabling.{small-answered, refused-answered, accepted-answered}
-use Rattle.tables.proofs.Accepted.{full_tables, full_roomy, same-reply, accepted-holds, accepted-paths}
+use Rattle.tables.proofs.Accepted.{full_roomy, same-reply, accepted-holds, accepted-paths}
 use lib.ListN.{length}
-use mathlib.Core.Path.{◌≡◌, sym, ◌∙◌}
+use Prim.Native.Nat.{ℕ}
+use Rattle.tables.specs.Answer.{refusal_of}
+use mathlib.Core.Path.{◌≡◌, sym, ap, ◌∙◌}
 use native.Mathlib.Omega.{arith}
 use Rattle.tables.proofs.tables.Goals as goal
 
@@ -20,32 +22,17 @@ room b e = sym e
 pub returns-then-not-roomy : goal.returns-then-not-roomy
 returns-then-not-roomy c =
     let L : TableBuffers = record { reach = c.args.reach.now; distance = c.args.distance.now; closed = c.args.closed.now } in
-    small-answered _ L _ (room L c.roomy.ensures ∙ c.if-not-roomy.true) c.refusal.ensures
-
-pub slice_bounds-read_graph-end : goal.slice_bounds-read_graph-end
-slice_bounds-read_graph-end c = sym (room-long 32768 c.letter_zeros-letters.ensures)
-
-pub slice_bounds-read_graph-end-2 : goal.slice_bounds-read_graph-end-2
-slice_bounds-read_graph-end-2 c = sym (room-long 1024 c.vertex_zeros-lengths.ensures)
-
-pub slice_bounds-read_graph-end-3 : goal.slice_bounds-read_graph-end-3
-slice_bounds-read_graph-end-3 c = sym (room-long 8192 c.number_zeros-edges.ensures)
-
-pub slice_bounds-read_graph-end-4 : goal.slice_bounds-read_graph-end-4
-slice_bounds-read_graph-end-4 c = sym (room-long 16384 c.cell_zeros-paths.ensures)
-
-pub slice_bounds-read_graph-end-5 : goal.slice_bounds-read_graph-end-5
-slice_bounds-read_graph-end-5 c = sym (room-long 16 c.path_zeros-counts.ensures)
+    small-answered _ L _ (room L c.roomy.ensures ∙ c.if-not-roomy.true) (c.refusal.ensures ∙ ap (λ (k : ℕ). refusal_of k 0 0) c.from.ensures)
 
 pub returns-then-read-ne0 : goal.returns-then-read-ne0
 returns-then-read-ne0 c =
     let L : TableBuffers = record { reach = c.args.reach.now; distance = c.args.distance.now; closed = c.args.closed.now } in
     let own : Buffers = record {
-      letters = c.letter_zeros-letters.result;
-      lengths = c.vertex_zeros-lengths.result;
-      edges = c.number_zeros-edges.result;
-      paths = c.cell_zeros-paths.result;
-      counts = c.path_zeros-counts.result;
+      letters = c.zeros-letters.result;
+      lengths = c.zeros-lengths.result;
+      edges = c.zeros-edges.result;
+      paths = c.zeros-paths.result;
+      counts = c.zeros-counts.result;
     } in
     let after : Buffers = record {
       letters = c.read_graph-read.new.letters;
@@ -55,36 +42,24 @@ returns-then-read-ne0 c =
       counts = c.read_graph-read.new.counts;
     } in
     let full : Full own = record {
-      letters = le_of_eq (sym (room-long 32768 c.letter_zeros-letters.ensures));
-      lengths = le_of_eq (sym (room-long 1024 c.vertex_zeros-lengths.ensures));
-      edges = le_of_eq (sym (room-long 8192 c.number_zeros-edges.ensures));
-      paths = le_of_eq (sym (room-long 16384 c.cell_zeros-paths.ensures));
-      counts = le_of_eq (sym (room-long 16 c.path_zeros-counts.ensures));
+      letters = le_of_eq (sym (room-long 32768 c.zeros-letters.ensures));
+      lengths = le_of_eq (sym (room-long 1024 c.zeros-lengths.ensures));
+      edges = le_of_eq (sym (room-long 8192 c.zeros-edges.ensures));
+      paths = le_of_eq (sym (room-long 16384 c.zeros-paths.ensures));
+      counts = le_of_eq (sym (room-long 16 c.zeros-counts.ensures));
     } in
     let n = number-some _ own after c.read_graph-read.result c.read_graph-read.ensures c.if-read-ne0.true in
     refused-answered _ L _ _ _ _ (same-reply _ L own (room L c.roomy.ensures ∙ c.if-not-roomy.false) (full_roomy own full) ∙ n.reply) c.refusal-then-read-ne0.ensures
 
-pub slice_bounds-lay_tables-end : goal.slice_bounds-lay_tables-end
-slice_bounds-lay_tables-end c = sym (c.read_graph-read.auto.lengths ∙ room-long 1024 c.vertex_zeros-lengths.ensures)
-
-pub slice_bounds-lay_tables-end-2 : goal.slice_bounds-lay_tables-end-2
-slice_bounds-lay_tables-end-2 c = sym (c.read_graph-read.auto.edges ∙ room-long 8192 c.number_zeros-edges.ensures)
-
-pub slice_bounds-lay_tables-end-3 : goal.slice_bounds-lay_tables-end-3
-slice_bounds-lay_tables-end-3 c = sym (c.read_graph-read.auto.paths ∙ room-long 16384 c.cell_zeros-paths.ensures)
-
-pub slice_bounds-lay_tables-end-4 : goal.slice_bounds-lay_tables-end-4
-slice_bounds-lay_tables-end-4 c = sym (c.read_graph-read.auto.counts ∙ room-long 16 c.path_zeros-counts.ensures)
-
-pub lay_tables-requires : goal.lay_tables-requires
-lay_tables-requires c =
+pub invariant_of-content : goal.invariant_of-content
+invariant_of-content c =
     let L : TableBuffers = record { reach = c.args.reach.now; distance = c.args.distance.now; closed = c.args.closed.now } in
     let own : Buffers = record {
-      letters = c.letter_zeros-letters.result;
-      lengths = c.vertex_zeros-lengths.result;
-      edges = c.number_zeros-edges.result;
-      paths = c.cell_zeros-paths.result;
-      counts = c.path_zeros-counts.result;
+      letters = c.zeros-letters.result;
+      lengths = c.zeros-lengths.result;
+      edges = c.zeros-edges.result;
+      paths = c.zeros-paths.result;
+      counts = c.zeros-counts.result;
     } in
     let after : Buffers = record {
       letters = c.read_graph-read.new.letters;
@@ -94,24 +69,24 @@ lay_tables-requires c =
       counts = c.read_graph-read.new.counts;
     } in
     let full : Full own = record {
-      letters = le_of_eq (sym (room-long 32768 c.letter_zeros-letters.ensures));
-      lengths = le_of_eq (sym (room-long 1024 c.vertex_zeros-lengths.ensures));
-      edges = le_of_eq (sym (room-long 8192 c.number_zeros-edges.ensures));
-      paths = le_of_eq (sym (room-long 16384 c.cell_zeros-paths.ensures));
-      counts = le_of_eq (sym (room-long 16 c.path_zeros-counts.ensures));
+      letters = le_of_eq (sym (room-long 32768 c.zeros-letters.ensures));
+      lengths = le_of_eq (sym (room-long 1024 c.zeros-lengths.ensures));
+      edges = le_of_eq (sym (room-long 8192 c.zeros-edges.ensures));
+      paths = le_of_eq (sym (room-long 16384 c.zeros-paths.ensures));
+      counts = le_of_eq (sym (room-long 16 c.zeros-counts.ensures));
     } in
     let accepted : Accepts c.args.file.now own after c.read_graph-read.result = number-zero _ _ _ _ c.read_graph-read.ensures (omega arith) in
-    record { content = record { graph = accepted.parsed.graph; holds = (accepted-holds _ _ _ _ (λ i. (c.type_inv.file i).fits) full accepted) }; full_table_in_bounds = full_tables L (room L c.roomy.ensures ∙ c.if-not-roomy.false) }
+    record { graph = accepted.parsed.graph; holds = accepted-holds _ _ _ _ (λ i. (c.type_inv.file i).fits) full accepted }
 
 pub returns : goal.returns
 returns c =
     let L : TableBuffers = record { reach = c.args.reach.now; distance = c.args.distance.now; closed = c.args.closed.now } in
     let own : Buffers = record {
-      letters = c.letter_zeros-letters.result;
-      lengths = c.vertex_zeros-lengths.result;
-      edges = c.number_zeros-edges.result;
-      paths = c.cell_zeros-paths.result;
-      counts = c.path_zeros-counts.result;
+      letters = c.zeros-letters.result;
+      lengths = c.zeros-lengths.result;
+      edges = c.zeros-edges.result;
+      paths = c.zeros-paths.result;
+      counts = c.zeros-counts.result;
     } in
     let after : Buffers = record {
       letters = c.read_graph-read.new.letters;
@@ -121,11 +96,11 @@ returns c =
       counts = c.read_graph-read.new.counts;
     } in
     let full : Full own = record {
-      letters = le_of_eq (sym (room-long 32768 c.letter_zeros-letters.ensures));
-      lengths = le_of_eq (sym (room-long 1024 c.vertex_zeros-lengths.ensures));
-      edges = le_of_eq (sym (room-long 8192 c.number_zeros-edges.ensures));
-      paths = le_of_eq (sym (room-long 16384 c.cell_zeros-paths.ensures));
-      counts = le_of_eq (sym (room-long 16 c.path_zeros-counts.ensures));
+      letters = le_of_eq (sym (room-long 32768 c.zeros-letters.ensures));
+      lengths = le_of_eq (sym (room-long 1024 c.zeros-lengths.ensures));
+      edges = le_of_eq (sym (room-long 8192 c.zeros-edges.ensures));
+      paths = le_of_eq (sym (room-long 16384 c.zeros-paths.ensures));
+      counts = le_of_eq (sym (room-long 16 c.zeros-counts.ensures));
     } in
     let accepted : Accepts c.args.file.now own after c.read_graph-read.result = number-zero _ _ _ _ c.read_graph-read.ensures (omega arith) in
     accepted-answered _ L accepted.parsed _ _ (room L c.roomy.ensures ∙ c.if-not-roomy.false) accepted.found (c.lay_tables.ensures accepted.parsed.graph (accepted-holds _ _ _ _ (λ i. (c.type_inv.file i).fits) full accepted) (accepted-paths _ _ _ _ accepted))

@@ -1,10 +1,10 @@
 use mathlib.Core.Path.{ap}
-use Rattle.anchors_view.specs.declared.view.Viewed.{Viewed}
+use Rattle.anchors.specs.View.{View}
 use Rattle.toadtrellis.specs.declared.ToadPart.{ToadPart}
 use Rattle.toadtrellis.proofs.toad_letters.Goals as goal
 
 -- the start and the length of a view as the code holds it
-part : Viewed → ToadPart
+part : View → ToadPart
 part w = record { start = w.start; length = w.len }
 
 pub returns : goal.returns

@@ -1,6 +1,4 @@
-use Prim.Native.Nat.{◌-◌, ◌≤◌}
-use mathlib.Core.Path.{◌≡◌}
-use lib.ListN.{take}
+use Rattle.std.proofs.Common.{◌≡◌, ◌-◌, take}
 use Rattle.anchors.specs.AnchorRules.{no_anchor}
 use Rattle.anchors_parts.specs.LabelTables.{content_of}
 use Rattle.anchors_rules.specs.OneAnchor.{anchor_of}
@@ -9,8 +7,7 @@ use Rattle.anchors_content.proofs.content.each_fault.Given as goal
 
 abbrev pub invariant-loop-i : goal.invariant-loop-i
 invariant-loop-i l =
-    (each_fault (content_of l.graph) (take l.r l.letters) l.n 0 no_anchor l.anchors ≡ each_fault (content_of l.graph) (take l.r l.letters) (l.n - l.i) l.i (anchor_of l.last) l.anchors)
-    × (l.i ≤ l.n)
-
-abbrev pub decreases-loop-i : goal.decreases-loop-i
-decreases-loop-i l = l.n - l.i
+    let g = l.content in
+    let read = take g.r g.buffers.letters in
+    each_fault (content_of l.labels) read g.n 0 no_anchor g.buffers.anchors
+    ≡ each_fault (content_of l.labels) read (g.n - l.i) l.i (anchor_of l.last) g.buffers.anchors

@@ -1,12 +1,6 @@
-use Prim.Native.Nat.{◌-◌, ◌≤◌}
-use mathlib.Core.Path.{◌≡◌}
-use lib.ListN.{length}
 use Rattle.anchors_parts.specs.LabelTables.{content_of}
 use Rattle.anchors_parts.proofs.LabelLaws.{Placing}
 use Rattle.anchors_parts.proofs.labels.label_places.Given as goal
 
 abbrev pub invariant-loop-i : goal.invariant-loop-i
-invariant-loop-i l = Placing l.graph l.at (content_of l.graph).labels l.initial.starts l.initial.lengths l.starts l.lengths l.i l.next × (l.i ≤ l.count) × (length l.starts ≡ length l.initial.starts) × (length l.lengths ≡ length l.initial.lengths)
-
-abbrev pub decreases-loop-i : goal.decreases-loop-i
-decreases-loop-i l = l.count - l.i
+invariant-loop-i l = Placing l.graph l.at (content_of l.graph).labels l.initial.starts l.initial.lengths l.starts l.lengths l.i l.next

@@ -1,30 +1,27 @@
-use mathlib.Core.Path.{refl, sym, ap, ◌∙◌}
+use Prim.Native.Nat.{ℕ, ◌-◌}
+use mathlib.Core.Path.{sym, ap, ◌∙◌}
 use native.Mathlib.Omega.{arith}
-use Rattle.anchors.specs.AnchorReading.{numbers_at}
-use Rattle.anchors_parts.specs.ReadAnchor.{read_five_of}
-use Rattle.anchors_parts.proofs.EachLaws.{five_good, five_fault, after_none, after_stop, after_more}
+use Rattle.std.proofs.Common.{rules}
+use Rattle.anchors_parts.specs.ReadAnchor.{numbers_after}
+use Rattle.anchors_parts.proofs.EachLaws.{after_none, after_stop, after_more}
 use Rattle.anchors_parts.proofs.one.five_after.Goals as goal
 
-pub loop-left-init : goal.loop-left-init
-loop-left-init c = refl
-
-pub returns-in_default : goal.returns-in_default
-returns-in_default c =
-    let l = c.loop-left in
+pub returns-in_err-next : goal.returns-in_err-next
+returns-in_err-next c =
+    let l = c.loop in
     let a = c.args in
-    let f = c.in_default.is in
-    let e = five_fault (numbers_at a.file.now l.place) (sym c.read_five-got.ensures ∙ f) in
-    f ∙ ap read_five_of (sym (l.invariant ∙ after_stop l.left a.file.now l.place (omega arith) e))
+    search (rules, l.invariant ∙ after_stop (a.skipped - l.counter) a.file.now l.place.at (omega arith) (sym c.in_err-next.ensures))
 
-pub loop-left-preserved : goal.loop-left-preserved
-loop-left-preserved c =
-    let l = c.loop-left in
+pub loop-preserved : goal.loop-preserved
+loop-preserved c =
+    let l = c.loop in
     let a = c.args in
-    let e = five_good (numbers_at a.file.now l.place) (sym c.read_five-got.ensures ∙ c.in-Got.is) in
-    l.invariant ∙ after_more l.left a.file.now l.place (omega arith) e
+    l.invariant
+    ∙ after_more (a.skipped - l.counter) a.file.now l.place.at (omega arith) (sym c.in_ok-next.ensures)
+    ∙ ap (λ (k : ℕ). numbers_after k a.file.now c.in_ok-next.next.at) (omega arith)
 
 pub returns : goal.returns
 returns c =
-    let l = c.loop-left in
+    let l = c.loop in
     let a = c.args in
-    c.read_five.ensures ∙ ap read_five_of (sym (l.invariant ∙ after_none l.left a.file.now l.place (omega arith)))
+    c.read_five-2.ensures ∙ sym (l.invariant ∙ after_none (a.skipped - l.counter) a.file.now l.place.at (omega arith))

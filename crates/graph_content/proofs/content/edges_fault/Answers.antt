@@ -1,33 +1,34 @@
-use Prim.Native.Nat.{ℕ}
-use mathlib.Core.Path.{sym, ap, ◌∙◌}
-use Rattle.graph.specs.Rules.{no_edge}
-use Rattle.graph_content.specs.Faults.{edges_fault}
-use Rattle.graph_content.proofs.Encoded.{left-all}
-use Rattle.graph_content.proofs.Faulting.{first_bad, first-none, edges_step, edges-over}
-use native.Mathlib.Omega.{arith}
+use Rattle.std.proofs.Common.{ℕ, ◌≡◌, sym, ap, ap₂, ◌∙◌, arith}
+use Rattle.std.proofs.lemmas.Result.{err_from_is_err_and}
+use Rattle.graph.specs.Content.{Edge}
+use Rattle.graph.specs.Rules.{edge_fault}
+use Rattle.graph.specs.Entries.{Given}
+use Rattle.graph_rules.specs.Edges.{edge_of}
+use Rattle.graph_content.proofs.Faulting.{refused, taken, edges_step, edges-over}
 use Rattle.graph_content.proofs.content.edges_fault.Goals as goal
 
--- src/content.rt:67:5
-pub loop-i-init : goal.loop-i-init
-loop-i-init c = ap (λ (k : ℕ). edges_fault c.args.n k 0 no_edge c.args.edges.now) (sym (left-all c.args.m))
-
--- src/content.rt:70:13
-pub returns-then-fault-ne0 : goal.returns-then-fault-ne0
-returns-then-fault-ne0 c =
+pub returns-in_err-edge_fault : goal.returns-in_err-edge_fault
+returns-in_err-edge_fault c =
     let l = c.loop-i in
-    let a = c.args in
-    sym (l.invariant ∙ edges_step a.n a.m l.i (record { from = l.from; to = l.to }) a.edges.now (omega arith) ∙ first_bad _ _ _ c.edge_fault-fault.ensures (λ z. omega arith))
+    let g = c.args.content.now in
+    let m : c.content.inside.m ≡ g.m = ap (λ (h : Given). h.m) c.content.view_is in
+    let f = c.in_err-edge_fault.ensures
+    ∙ ap₂ (λ (n : ℕ) (d : Edge). edge_fault n (edge_of l.last) d) (ap (λ (h : Given). h.n) c.content.view_is) c.edge-edge.ensures in
+    let p = err_from_is_err_and c.from_residual.result c.from_residual.ensures.1 in
+    rw (p.1, p.2) (sym (l.invariant ∙ edges_step g.n g.m l.i (edge_of l.last) g.buffers.edges (omega arith) ∙ refused _ _ _ f))
 
--- src/content.rt:67:5
 pub loop-i-preserved : goal.loop-i-preserved
 loop-i-preserved c =
     let l = c.loop-i in
-    let a = c.args in
-    l.invariant ∙ edges_step a.n a.m l.i (record { from = l.from; to = l.to }) a.edges.now (omega arith) ∙ first-none c.edge_fault-fault.result _ _ c.edge_fault-fault.ensures (omega arith)
+    let g = c.args.content.now in
+    let m : c.content.inside.m ≡ g.m = ap (λ (h : Given). h.m) c.content.view_is in
+    let f = c.in_ok-edge_fault.ensures
+    ∙ ap₂ (λ (n : ℕ) (d : Edge). edge_fault n (edge_of l.last) d) (ap (λ (h : Given). h.n) c.content.view_is) c.edge-edge.ensures in
+    rw c.edge-edge.ensures (l.invariant ∙ edges_step g.n g.m l.i (edge_of l.last) g.buffers.edges (omega arith) ∙ taken _ _ f)
 
--- src/content.rt:60:1
 pub returns : goal.returns
 returns c =
     let l = c.loop-i in
-    let a = c.args in
-    sym (l.invariant ∙ edges-over a.n a.m l.i (record { from = l.from; to = l.to }) a.edges.now (omega arith))
+    let g = c.args.content.now in
+    let m : c.content.inside.m ≡ g.m = ap (λ (h : Given). h.m) c.content.view_is in
+    sym (l.invariant ∙ edges-over g.n g.m l.i (edge_of l.last) g.buffers.edges (omega arith))

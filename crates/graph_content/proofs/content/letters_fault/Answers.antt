@@ -1,29 +1,23 @@
-use mathlib.Core.Path.{refl, sym, ◌∙◌}
-use Rattle.graph_content.proofs.Faulting.{first_bad, first-none, letters-step, letters_end}
-use native.Mathlib.Omega.{arith}
+use Rattle.std.proofs.Common.{length, sym, ◌∙◌, arith}
+use Rattle.std.proofs.lemmas.Result.{err_from_is_err_and}
+use Rattle.graph_content.proofs.Faulting.{refused, taken, letters-step, letters_end}
 use Rattle.graph_content.proofs.content.letters_fault.Goals as goal
 
--- src/content.rt:26:5
-pub loop-at-init : goal.loop-at-init
-loop-at-init c = refl
+pub returns-in_err-letter_fault : goal.returns-in_err-letter_fault
+returns-in_err-letter_fault c =
+    let l = c.loop-letter in
+    let s = c.args.letters.now in
+    let p = err_from_is_err_and c.from_residual.result c.from_residual.ensures.1 in
+    rw (p.1, p.2) (sym (l.invariant ∙ letters-step s (length s) l.letter-index (omega arith) ∙ refused _ _ _ c.in_err-letter_fault.ensures))
 
--- src/content.rt:29:13
-pub returns-then-fault-ne0 : goal.returns-then-fault-ne0
-returns-then-fault-ne0 c =
-    let l = c.loop-at in
-    let a = c.args in
-    sym (l.invariant ∙ letters-step a.letters.now a.end l.at (omega arith) ∙ first_bad _ _ _ c.letter_fault-fault.ensures (λ z. omega arith))
+pub loop-letter-preserved : goal.loop-letter-preserved
+loop-letter-preserved c =
+    let l = c.loop-letter in
+    let s = c.args.letters.now in
+    l.invariant ∙ letters-step s (length s) l.letter-index (omega arith) ∙ taken _ _ c.in_ok-letter_fault.ensures
 
--- src/content.rt:26:5
-pub loop-at-preserved : goal.loop-at-preserved
-loop-at-preserved c =
-    let l = c.loop-at in
-    let a = c.args in
-    l.invariant ∙ letters-step a.letters.now a.end l.at (omega arith) ∙ first-none c.letter_fault-fault.result _ _ c.letter_fault-fault.ensures (omega arith)
-
--- src/content.rt:21:1
 pub returns : goal.returns
 returns c =
-    let l = c.loop-at in
-    let a = c.args in
-    sym (l.invariant ∙ letters_end a.letters.now a.end l.at (omega arith))
+    let l = c.loop-letter in
+    let s = c.args.letters.now in
+    sym (l.invariant ∙ letters_end s (length s) l.letter-index (omega arith))

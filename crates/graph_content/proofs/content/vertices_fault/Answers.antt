@@ -1,44 +1,42 @@
-use mathlib.Core.Path.{sym, ◌∙◌}
-use Rattle.graph_content.proofs.Walking.{walked_not, walked_head, walked_end, walked_bad, walked_off, walked_more}
-use native.Mathlib.Omega.{arith}
+use Rattle.std.proofs.Common.{sym, ap, ◌∙◌, arith}
+use Rattle.std.proofs.lemmas.Result.{err_from_is_err_and}
+use Rattle.graph.specs.Entries.{Given}
+use Rattle.graph_content.proofs.Walking.{walked_end, walked_bad, walked-first, walked_off, walked_more}
 use Rattle.graph_content.proofs.content.vertices_fault.Goals as goal
+use Rattle.graph_content.proofs.content.vertices_fault.Goals.{then-last-ne0+else-not-edge_is, else-last-ne0}
 
--- src/content.rt:115:9
-pub returns-then-head-ne0 : goal.returns-then-head-ne0
-returns-then-head-ne0 c =
-    let a = c.args in
-    sym (walked_not a.n a.m a.edges.now a.paths.now a.start a.end _ (omega arith) c.rise_fault-head.ensures (λ z. omega arith))
+pub returns-in_err-rise_fault : goal.returns-in_err-rise_fault
+returns-in_err-rise_fault c =
+    let l = c.loop-vertex in
+    let g = c.args.content.now in
+    let f = rw (ap (λ (h : Given). h.n) c.content.view_is) at c.in_err-rise_fault.ensures in
+    let p = err_from_is_err_and c.from_residual.result c.from_residual.ensures.1 in
+    rw (p.1, p.2) (sym (walked_bad g.n g.m g.buffers.edges c.args.path.now l.place l.vertex-index l.last l.invariant _ (omega arith) f))
 
--- src/content.rt:119:5
-pub loop-at-init : goal.loop-at-init
-loop-at-init c =
-    let a = c.args in
-    walked_head a.n a.m a.edges.now a.paths.now a.start a.end _ (omega arith) c.rise_fault-head.ensures (omega arith)
-
--- src/content.rt:122:13
-pub returns-then-fault-ne0 : goal.returns-then-fault-ne0
-returns-then-fault-ne0 c =
-    let a = c.args in
-    let l = c.loop-at in
-    sym (walked_bad a.n a.m a.edges.now a.paths.now a.start a.end l.place l.at l.invariant _ (omega arith) c.rise_fault-fault.ensures (λ z. omega arith))
-
--- src/content.rt:126:13
 pub returns-then-not-edge_is : goal.returns-then-not-edge_is
 returns-then-not-edge_is c =
-    let a = c.args in
-    let l = c.loop-at in
-    sym (walked_off a.n a.m a.edges.now a.paths.now a.start a.end l.place l.at l.invariant c.rise_fault-fault.result c.skip_edges-place.result (omega arith) c.rise_fault-fault.ensures (omega arith) c.requires.m_le_most_edges.2 c.skip_edges-place.ensures.0 c.skip_edges-place.ensures.1 (sym c.edge_is.ensures ∙ c.if-not-edge_is.true))
+    let l = c.loop-vertex in
+    let g = c.args.content.now in
+    let f = rw (ap (λ (h : Given). h.n) c.content.view_is) at c.in_ok-rise_fault.ensures in
+    let s = c.skip_edges-place in
+    sym (walked_off g.n g.m g.buffers.edges c.args.path.now l.place l.vertex-index l.last l.invariant (omega arith) f s.result (omega arith) c.requires.rising.1 s.ensures.0 s.ensures.1 (sym c.edge_is.ensures ∙ c.if-not-edge_is.true))
 
--- src/content.rt:119:5
-pub loop-at-preserved : goal.loop-at-preserved
-loop-at-preserved c =
-    let a = c.args in
-    let l = c.loop-at in
-    walked_more a.n a.m a.edges.now a.paths.now a.start a.end l.place l.at l.invariant c.rise_fault-fault.result c.skip_edges-place.result (omega arith) c.rise_fault-fault.ensures (omega arith) c.requires.m_le_most_edges.2 c.skip_edges-place.ensures.0 c.skip_edges-place.ensures.1 (sym c.edge_is.ensures ∙ c.if-not-edge_is.false)
+pub loop-vertex-preserved : goal.loop-vertex-preserved
+loop-vertex-preserved c =
+    let l = c.loop-vertex in
+    let g = c.args.content.now in
+    let f = rw (ap (λ (h : Given). h.n) c.content.view_is) at c.in_ok-rise_fault.ensures in
+    elim c.if-last-ne0.branch [
+      | then-last-ne0+else-not-edge_is w ↦
+          let s = w.skip_edges-place in
+          rw (w.last-is, w.place-is) (walked_more g.n g.m g.buffers.edges c.args.path.now l.place l.vertex-index l.last l.invariant (omega arith) f s.result (omega arith) c.requires.rising.1 s.ensures.0 s.ensures.1
+          (sym w.edge_is.ensures ∙ w.if-not-edge_is.false))
+      | else-last-ne0 w ↦
+          rw (w.last-is, w.place-is) (walked-first g.n g.m g.buffers.edges c.args.path.now l.place l.vertex-index l.last l.invariant (omega arith) f (omega arith))
+    ]
 
--- src/content.rt:108:1
 pub returns : goal.returns
 returns c =
-    let a = c.args in
-    let l = c.loop-at in
-    sym (walked_end a.n a.m a.edges.now a.paths.now a.start a.end l.place l.at l.invariant (omega arith))
+    let l = c.loop-vertex in
+    let g = c.args.content.now in
+    sym (walked_end g.n g.m g.buffers.edges c.args.path.now l.place l.vertex-index l.last l.invariant (omega arith))

@@ -1,62 +1,61 @@
-use Prim.Native.Nat.{ℕ}
-use mathlib.Core.Path.{refl, sym, ap, ◌∙◌}
+use Prim.Native.Nat.{ℕ, ◌+◌, ◌-◌}
+use mathlib.Core.Path.{◌≡◌, sym, ap, ◌∙◌}
 use native.Mathlib.Omega.{arith}
-use Rattle.wire.specs.declared.numbers.Number.TheVariants.{Fault}
-use Rattle.graph_parts.specs.Answers.{labels_answer}
+use Rattle.std.proofs.Common.{rules}
+use Rattle.wire.specs.Found.{fault}
+use Rattle.graph.specs.Rules.{length_fault}
+use Rattle.graph.specs.Reading.{labels_from}
 use Rattle.graph.proofs.Kept.{length_kept}
+use Rattle.graph_parts.specs.Answers.{labels_answer}
 use Rattle.graph_parts.proofs.Lettering.{labels_end, labels-stop, labels-long, labels_letter, labels_next}
 use Rattle.graph_parts.proofs.labels.check_labels.Goals as goal
 
-pub loop-left-init : goal.loop-left-init
-loop-left-init c = refl
-
-pub returns-in_default : goal.returns-in_default
-returns-in_default c =
-    let l = c.loop-left in
+pub returns-in_err-len : goal.returns-in_err-len
+returns-in_err-len c =
     let a = c.args in
-    let f = c.in_default.is in
-    f
-    ∙ sym (l.invariant ∙ ap (labels_answer l.sum)
-    (labels-stop l.left l.sum a.file.now l.at (omega arith) (sym c.read_number-got.ensures ∙ f)))
+    let l = c.loop in
+    search (
+      rules,
+      l.invariant ∙ ap (labels_answer l.sum) (labels-stop (a.n - l.counter) l.sum a.file.now l.next.at (omega arith) (sym c.in_err-len.ensures)),
+    )
 
-pub returns-then-number-ne0 : goal.returns-then-number-ne0
-returns-then-number-ne0 c =
-    let l = c.loop-left in
+pub returns-in_err-map_err : goal.returns-in_err-map_err
+returns-in_err-map_err c =
     let a = c.args in
-    let e = sym c.read_number-got.ensures ∙ c.in-Value.is in
-    let r = c.length_fault-number.ensures in
-    ap (λ (i : ℕ). Fault i l.at) r
-    ∙ sym (l.invariant ∙ ap (labels_answer l.sum) (labels-long l.left l.sum a.file.now l.at (omega arith) e (λ z. c.if-number-ne0.true (r ∙ z))))
+    let l = c.loop in
+    let f : (length_fault l.sum c.in_ok-len.len ≡ 0 → ⊥)
+    → labels_answer l.sum (labels_from (a.n - l.counter) l.sum a.file.now l.next.at) ≡ fault (length_fault l.sum c.in_ok-len.len) l.next.at =
+    λ z. ap (labels_answer l.sum) (labels-long (a.n - l.counter) l.sum a.file.now l.next.at (omega arith) (sym c.in_ok-len.ensures) z) in
+    search (rules, f, c.length_fault.ensures, l.invariant)
 
-pub returns-in_default-letters : goal.returns-in_default-letters
-returns-in_default-letters c =
-    let l = c.loop-left in
+pub returns-in_err-after : goal.returns-in_err-after
+returns-in_err-after c =
     let a = c.args in
-    let e = sym c.read_number-got.ensures ∙ c.in-Value.is in
-    let r = sym c.length_fault-number.ensures ∙ c.if-number-ne0.false in
-    let f = c.in_default-letters.is in
-    f
-    ∙ sym (l.invariant ∙ ap (labels_answer l.sum)
-    (labels_letter l.left l.sum a.file.now l.at (omega arith) e r (sym c.check_letters-letters.ensures ∙ f)))
+    let l = c.loop in
+    let r : length_fault l.sum c.in_ok-len.len ≡ 0 = search (rules, c.length_fault.ensures) in
+    search (
+      rules,
+      l.invariant ∙ ap (labels_answer l.sum)
+          (labels_letter (a.n - l.counter) l.sum a.file.now l.next.at (omega arith) (sym c.in_ok-len.ensures) r (sym c.in_err-after.ensures)),
+    )
 
 pub overflow_add-sum : goal.overflow_add-sum
 overflow_add-sum c =
-    let l = c.loop-left in
-    let r = sym c.length_fault-number.ensures ∙ c.if-number-ne0.false in
-    omega (arith, length_kept l.sum c.in-Value.len r)
+    let l = c.loop in
+    let r : length_fault l.sum c.in_ok-len.len ≡ 0 = search (rules, c.length_fault.ensures) in
+    omega (arith, length_kept l.sum c.in_ok-len.len r)
 
-pub loop-left-preserved : goal.loop-left-preserved
-loop-left-preserved c =
-    let l = c.loop-left in
+pub loop-preserved : goal.loop-preserved
+loop-preserved c =
     let a = c.args in
-    let e = sym c.read_number-got.ensures ∙ c.in-Value.is in
-    let r = sym c.length_fault-number.ensures ∙ c.if-number-ne0.false in
+    let l = c.loop in
+    let r : length_fault l.sum c.in_ok-len.len ≡ 0 = search (rules, c.length_fault.ensures) in
     l.invariant
-    ∙ labels_next l.left l.sum a.file.now l.at (omega arith) e r
-    (sym c.check_letters-letters.ensures ∙ c.in-Value-letters.is)
+    ∙ labels_next (a.n - l.counter) l.sum a.file.now l.next.at (omega arith) (sym c.in_ok-len.ensures) r (sym c.in_ok-after.ensures)
+    ∙ ap (λ (k : ℕ). labels_answer (l.sum + c.in_ok-len.len) (labels_from k (l.sum + c.in_ok-len.len) a.file.now c.in_ok-after.after.at)) (omega arith)
 
 pub returns : goal.returns
 returns c =
-    let l = c.loop-left in
     let a = c.args in
-    labels_end l.left l.sum a.file.now l.at (omega arith) ∙ sym l.invariant
+    let l = c.loop in
+    labels_end (a.n - l.counter) l.sum a.file.now l.next.at (omega arith) ∙ sym l.invariant

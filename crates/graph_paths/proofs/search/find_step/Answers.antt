@@ -5,10 +5,8 @@ use Rattle.graph_paths.proofs.search.find_step.Goals as goal
 
 pub returns-then-last-eq0 : goal.returns-then-last-eq0
 unfolding step_at
-returns-then-last-eq0 c =
-    let a = c.args in simp (eq-eqb a.last 0 (omega arith)) c.ended.ensures
+returns-then-last-eq0 c = simp (eq-eqb c.args.last 0 (omega arith))
 
 pub returns : goal.returns
 unfolding step_at
-returns c =
-    let a = c.args in simp (ne_eqb a.last 0 (λ e. omega arith)) c.find_edge.ensures
+returns c = simp (ne_eqb c.args.last 0 (λ e. omega arith)) c.find_edge.ensures

@@ -1,56 +1,41 @@
-use Prim.Native.Nat.{◌+◌, ◌≤◌, ◌<◌}
-use mathlib.Core.Path.{sym, ◌∙◌}
-use mathlib.Core.Logic.{◌≢◌}
+use Prim.Native.Nat.{◌+◌, ◌-◌}
+use mathlib.Core.Path.{◌≡◌, ap, ◌∙◌}
 use native.Mathlib.Omega.{arith}
-use Rattle.pair_step.specs.Pairs.{jump_in}
+use Rattle.pair_step.specs.Pairs.{jump_in, read_gap_in, graph_gap_in}
 use Rattle.pair_step.proofs.PairLaws.{jump_fits, step_late, step-none, step-some}
 use Rattle.pair_step.proofs.step.step.Goals as goal
 
-pub returns-then-c-d : goal.returns-then-c-d
-returns-then-c-d c = let a = c.args in sym (step_late a.row.now a.u a.y a.d a.v a.x a.c (omega arith))
+pub returns-then-to-from : goal.returns-then-to-from
+returns-then-to-from c = let f = c.args.from in let t = c.args.to in step_late c.args.row.now f.u f.y f.d t.v t.x t.c (omega arith)
 
-pub returns-then-far-eq0 : goal.returns-then-far-eq0
-returns-then-far-eq0 c =
-    let a = c.args in
-    sym (step-none a.row.now a.u a.y a.d a.v a.x a.c (omega arith) (omega (arith, c.jump-far.ensures)))
+pub returns-in_err-s : goal.returns-in_err-s
+returns-in_err-s c =
+    let f = c.args.from in
+    let t = c.args.to in
+    rw c.from_residual.ensures (step-none c.args.row.now f.u f.y f.d t.v t.x t.c (omega arith) c.in_err-s.ensures)
 
 pub graph_gap-requires : goal.graph_gap-requires
 graph_gap-requires c =
-    let t = (let told : let a = c.args in
-    (jump_in a.row.now a.u a.y a.v a.x ≤ 131072)
-    × (jump_in a.row.now a.u a.y a.v a.x ≢ 0 → a.y + 1 < jump_in a.row.now a.u a.y a.v a.x + a.x) = let a = c.args in
-    jump_fits a.row.now a.u a.y a.v a.x (omega arith) c.requires.fact (omega arith) in told) in
-    let n = t.1 (λ e. omega (arith, c.jump-far.ensures)) in
-    let j = c.jump-far.ensures in
+    let f = c.args.from in
+    let t = c.args.to in
+    let j = c.in_ok-s.ensures in
+    let b = jump_fits c.args.row.now f.u f.y t.v t.x (omega arith) c.requires.fact (omega arith) in
+    let n = b.1 (λ e. omega arith) in
     (omega arith, omega arith, omega arith)
 
 pub overflow_add-result : goal.overflow_add-result
-overflow_add-result c = omega (
-  arith,
-  c.read_gap.ensures,
-  c.graph_gap.ensures,
-  ((let told : let a = c.args in
-      (jump_in a.row.now a.u a.y a.v a.x ≤ 131072)
-      × (jump_in a.row.now a.u a.y a.v a.x ≢ 0 → a.y + 1 < jump_in a.row.now a.u a.y a.v a.x + a.x) = let a = c.args in
-      jump_fits a.row.now a.u a.y a.v a.x (omega arith) c.requires.fact (omega arith) in told)).0,
-  c.jump-far.ensures,
-)
-
-pub overflow_add-result-2 : goal.overflow_add-result-2
-overflow_add-result-2 c = omega (
-  arith,
-  c.read_gap.ensures,
-  c.graph_gap.ensures,
-  ((let told : let a = c.args in
-      (jump_in a.row.now a.u a.y a.v a.x ≤ 131072)
-      × (jump_in a.row.now a.u a.y a.v a.x ≢ 0 → a.y + 1 < jump_in a.row.now a.u a.y a.v a.x + a.x) = let a = c.args in
-      jump_fits a.row.now a.u a.y a.v a.x (omega arith) c.requires.fact (omega arith) in told)).0,
-  c.jump-far.ensures,
-)
+overflow_add-result c =
+    let f = c.args.from in
+    let t = c.args.to in
+    let j = c.in_ok-s.ensures in
+    let b = jump_fits c.args.row.now f.u f.y t.v t.x (omega arith) c.requires.fact (omega arith) in
+    omega (arith, c.read_gap.ensures, c.graph_gap.ensures, b.0, j)
 
 pub returns : goal.returns
 returns c =
-    let a = c.args in
-    let j = c.jump-far.ensures in
+    let f = c.args.from in
+    let t = c.args.to in
+    let j : jump_in c.args.row.now f.u f.y t.v t.x - 1 ≡ c.in_ok-s.s = omega (arith, c.in_ok-s.ensures) in
     rw (c.read_gap.ensures, c.graph_gap.ensures)
-    (sym (step-some a.row.now a.u a.y a.d a.v a.x a.c (omega arith) (λ e. omega arith) ∙ rw (← j)))
+    (step-some c.args.row.now f.u f.y f.d t.v t.x t.c (omega arith) (λ e. omega (arith, c.in_ok-s.ensures))
+    ∙ ap (λ s. read_gap_in f.d t.c + graph_gap_in s t.x f.y + 1) j)

@@ -1,18 +1,17 @@
-use Rattle.tables_make.proofs.Meaning.{holds-held, holds_on, linked_on}
-use mathlib.Core.Path.{sym, ◌∙◌}
+use lib.ListN.{length}
+use mathlib.Core.Path.{◌≡◌, sym, ap, ◌∙◌}
+use Rattle.tables_make.specs.Made.{InBuffers}
+use Rattle.tables_make.proofs.Meaning.{holds-held, linked_on}
 use Rattle.tables_make.proofs.make.list_and_fill.Goals as goal
 
-pub list_by_target-requires : goal.list_by_target-requires
-list_by_target-requires c =
-    record { held = holds-held c.requires.content.holds; by_index = c.requires.by_index }
+pub list_by_target-requires-clause-held : goal.list_by_target-requires-clause-held
+list_by_target-requires-clause-held c =
+    let n : length c.args.heads.now ≡ c.content.inside.n = c.requires.heads_len.0 ∙ sym (ap (λ (b : InBuffers). b.n) c.content.view_is) in
+    let m : length c.args.nexts.now ≡ c.content.inside.m = c.requires.heads_len.1 ∙ sym (ap (λ (b : InBuffers). b.m) c.content.view_is) in
+    rw (n, m) (holds-held c.content.invariant.holds)
 
-pub fill_tables-requires : goal.fill_tables-requires
-fill_tables-requires c =
-    let p = c.list_by_target.auto.heads in
-    let q = c.list_by_target.auto.nexts in
-    let r = c.requires.reach_len in record { content = record { graph = c.requires.content.graph; holds = holds_on _ _ p q c.requires.content.holds }; linked = linked_on _ _ p q (holds-held c.requires.content.holds) c.list_by_target.ensures; scratch_len = rw p c.requires.scratch_len; reach_len = (rw p r.0, rw p r.1, r.2 ∙ sym p) }
-
-pub returns : goal.returns
-returns c =
-    λ g H.
-    c.fill_tables.ensures g (holds_on _ _ c.list_by_target.auto.heads c.list_by_target.auto.nexts H)
+pub new-edges-requires : goal.new-edges-requires
+new-edges-requires c =
+    let n : length c.args.heads.now ≡ c.content.inside.n = c.requires.heads_len.0 ∙ sym (ap (λ (b : InBuffers). b.n) c.content.view_is) in
+    let m : length c.args.nexts.now ≡ c.content.inside.m = c.requires.heads_len.1 ∙ sym (ap (λ (b : InBuffers). b.m) c.content.view_is) in
+    linked_on c.list_by_target.new.heads c.list_by_target.new.nexts c.list_by_target.auto.heads c.list_by_target.auto.nexts (rw (n, m) (holds-held c.content.invariant.holds)) c.list_by_target.ensures

@@ -5,7 +5,7 @@ use Rattle.wire.proofs.numbers.end_number.Goals as goal
 use Rattle.wire.proofs.numbers.end_number.Goals.{else-b-eq0, then-b-eq0+else-start-at}
 
 pub returns-then-start-at : goal.returns-then-start-at
-returns-then-start-at c = let a = c.args in sym (ended-refused a.b a.start a.at a.weight a.value (omega arith) (omega arith))
+returns-then-start-at c = let a = c.args in rw c.at.ensures (sym (ended-refused a.b a.start a.at a.weight a.value (omega arith) (omega arith)))
 
 pub returns : goal.returns
 returns c =

@@ -17,7 +17,7 @@ pub returns-then-b-gt15 : goal.returns-then-b-gt15
 returns-then-b-gt15 c =
     let l = c.loop-at in
     let a = c.args in
-    sym (l.invariant.0 ∙ read_great a.bytes.now (length a.bytes.now) a.cursor.at l.at l.weight l.value l.left c.if-left-eq0.true c.loop-at-test.true (omega arith))
+    rw c.at.ensures (sym (l.invariant.0 ∙ read_great a.bytes.now (length a.bytes.now) a.cursor.at l.at l.weight l.value l.left c.if-left-eq0.true c.loop-at-test.true (omega arith)))
 
 pub end_number-requires : goal.end_number-requires
 end_number-requires c =
@@ -74,4 +74,4 @@ pub returns : goal.returns
 returns c =
     let l = c.loop-at in
     let a = c.args in
-    sym (l.invariant.0 ∙ read_end a.bytes.now (length a.bytes.now) a.cursor.at l.at l.weight l.value l.left c.loop-at-test.false)
+    rw c.at-2.ensures (sym (l.invariant.0 ∙ read_end a.bytes.now (length a.bytes.now) a.cursor.at l.at l.weight l.value l.left c.loop-at-test.false))

@@ -1,2 +1,0 @@
--- The laws of the head of an anchor file.
-pub mod HeadLaws

@@ -1,7 +1,0 @@
-use native.Mathlib.Omega.{arith}
-use mir.Syntax.{w64}
-use mir.Facts.{to_z_pos}
-use Rattle.candidates.proofs.signed.Goals as goal
-
-pub returns : goal.returns
-returns c = to_z_pos w64 (omega arith)

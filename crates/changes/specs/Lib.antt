@@ -1,0 +1,2 @@
+-- The definitions of changes that a text writes.
+pub mod Changes

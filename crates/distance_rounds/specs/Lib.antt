@@ -1,0 +1,2 @@
+-- The definitions that the rules' clauses cite.
+pub mod Reading

@@ -1,0 +1,2 @@
+-- The laws of what a reader gave.
+pub mod Reading

@@ -1,0 +1,2 @@
+-- What the work over an accepted graph file rests on.
+pub mod Read

@@ -1,2 +1,0 @@
--- The law that the sweep's chain cites besides the shared ones.
-pub mod Swept

@@ -1,0 +1,2 @@
+-- The definitions that the contracts of the lanes' code cite.
+pub mod Follows

@@ -1,7 +1,0 @@
-use Rattle.tables_make.specs.Made.{zeros}
-use mathlib.Core.Path.{refl}
-use Rattle.tables_make.proofs.make.letter_zeros.Goals as goal
-
-pub returns : goal.returns
-unfolding zeros
-returns c = refl
