@@ -15,7 +15,8 @@ use graph_check::{Sections, check_graph};
 use graph_parts::counts::read_count;
 use graph_parts::labels::check_letters;
 use wire::refusals::{Fault, File, FileFault, Refusal};
-use wire::sizes::{MOST_ANCHORS, MOST_FILE_BYTES};
+use wire::sizes::{FULL_LENGTHS, MOST_ANCHORS, MOST_FILE_BYTES};
+use wire_lent::zeros;
 
 // r and N of an accepted file, and the places where the read's letters and the anchors start.
 #[derive(Clone, Copy)]
@@ -53,7 +54,9 @@ pub fn check_anchors(graph: &[u8], file: &[u8]) -> Result<(Sections, AnchorSecti
     ensures { replied result ≡ checked_both_of (both_reply graph.now file.now) }
 {
     let g = check_graph(graph).map_err(|fault| fault.of(File::Graph))?;
-    let labels = Labels::of(graph, g.labels, g.n);
+    let mut starts: [u32; FULL_LENGTHS] = zeros();
+    let mut lengths: [u32; FULL_LENGTHS] = zeros();
+    let labels = Labels::of(graph, g.labels, g.n, &mut starts, &mut lengths);
     let a = check_over(&labels, file).map_err(|fault| fault.of(File::Anchors))?;
     Ok((g, a))
 }

@@ -3,21 +3,19 @@ ghost use Rattle.std.specs.Prelude.{◌≡◌, ◌-◌, ◌≤◌, length, get_o
 ghost use Rattle.wire.specs.Lent.{front};
 ghost use Rattle.graph.specs.Content.{lengths_of, vertex_count};
 ghost use Rattle.anchors.specs.AnchorRules.{label_of};
-ghost use Rattle.anchors_parts.specs.LabelTables.{LabelsAt, content_of, starts_in};
+ghost use Rattle.anchors_parts.specs.LabelTables.{LabelsAt, LabelTables, content_of, starts_in};
 
 use std::marker::Model;
 use wire::numbers::{Cursor, read_number};
-use wire::sizes::FULL_LENGTHS;
-use wire_lent::zeros;
 
 // The labels of an accepted graph file: for each of its n vertices where its label's letters start and how many they are, vertex v at place v - 1.
-// Two tables and not one of pairs: the lengths are those of the content, `lengths_of`.
+// Two tables and not one of pairs: the lengths are those of the content, `lengths_of`. The tables are lent, so that handing labels on copies none.
 #[derive(Drop)]
 pub struct Labels<'a> {
     graph: &'a [u8],
     n: u32,
-    starts: [u32; FULL_LENGTHS],
-    lengths: [u32; FULL_LENGTHS],
+    starts: &'a [u32],
+    lengths: &'a [u32],
 }
 
 impl<'a> Model for Labels<'a> {
@@ -28,18 +26,32 @@ impl<'a> Model for Labels<'a> {
 
     ghost view = { λ l. l.graph.now };
 
-    ghost invariant = { λ l. ((i : ℕ) → get_or l.graph.now i 0 < 256) × LabelTables l.graph.now l.n l.starts l.lengths };
+    ghost invariant = { λ l. ((i : ℕ) → get_or l.graph.now i 0 < 256) × LabelTables l.graph.now l.n l.starts.now l.lengths.now };
 }
 
 impl<'a> Labels<'a> {
-    // The labels of an accepted graph file of n vertices, the first of which starts at a place.
-    pub fn of(graph: &'a [u8], at: usize, n: u32) -> Labels<'a>
-        requires { LabelsAt graph.now at n }
+    // The labels of an accepted graph file of n vertices, the first of which starts at a place. `starts` and `lengths` are lent with a place for each
+    // vertex, and filled.
+    pub fn of(
+        graph: &'a [u8],
+        at: usize,
+        n: u32,
+        starts: &'a mut [u32],
+        lengths: &'a mut [u32],
+    ) -> Labels<'a>
+        requires labels_at { LabelsAt graph.now at n }
+        requires room { (n ≤ length starts.old) × (n ≤ length lengths.old) }
         ensures { result ≡ graph.now }
     {
-        let mut starts: [u32; FULL_LENGTHS] = zeros();
-        let mut lengths: [u32; FULL_LENGTHS] = zeros();
-        label_places(graph, at, n, &mut starts, &mut lengths);
+        label_places(graph, at, n, starts, lengths);
+        Labels::over(graph, n, starts, lengths)
+    }
+
+    // The same, by tables that are filled.
+    pub fn over(graph: &'a [u8], n: u32, starts: &'a [u32], lengths: &'a [u32]) -> Labels<'a>
+        requires { LabelTables graph.now n starts.now lengths.now }
+        ensures { result ≡ graph.now }
+    {
         Labels {
             graph,
             n,
@@ -60,7 +72,8 @@ impl<'a> Labels<'a> {
         requires le_v { (1 ≤ v) × (v ≤ vertex_count (content_of self.now)) }
         ensures { result ≡ get_or (starts_in self.now) (v - 1) 0 }
     {
-        self.starts[v as usize - 1]
+        let starts = self.starts;
+        starts[v as usize - 1]
     }
 
     // The letters of vertex v's label.
@@ -69,15 +82,16 @@ impl<'a> Labels<'a> {
         ensures { result.now ≡ label_of (content_of self.now) v }
     {
         let place = v as usize - 1;
-        let start = self.starts[place] as usize;
-        let end = start + self.lengths[place] as usize;
+        let (starts, lengths) = (self.starts, self.lengths);
+        let start = starts[place] as usize;
+        let end = start + lengths[place] as usize;
         let graph = self.graph;
         &graph[start..end]
     }
 }
 
 // Writes for each of the n vertices where its label's letters start in the graph file, and how many they are, vertex v at place v - 1.
-fn label_places(graph: &[u8], at: usize, n: u32, starts: &mut [u32], lengths: &mut [u32])
+pub fn label_places(graph: &[u8], at: usize, n: u32, starts: &mut [u32], lengths: &mut [u32])
     requires labels_at { LabelsAt graph.now at n }
     requires n_in_bounds { (n ≤ length starts.old) × (n ≤ length lengths.old) }
     ensures { (starts.new ≡ front (starts_in graph.now) starts.old)

@@ -9,6 +9,8 @@ use anchors_parts::labels::Labels;
 use anchors_parts::one::five_after;
 use wire::numbers::Cursor;
 use wire::refusals::File;
+use wire::sizes::FULL_LENGTHS;
+use wire_lent::zeros;
 
 // A part of a file: the file, the place where it starts and how long it is.
 #[derive(Clone, Copy)]
@@ -41,7 +43,9 @@ pub fn view(graph: &[u8], anchors: &[u8], number: u32, file: u32) -> Viewed
     };
     match file {
         1 => {
-            let labels = Labels::of(graph, g.labels, g.n);
+            let mut starts: [u32; FULL_LENGTHS] = zeros();
+            let mut lengths: [u32; FULL_LENGTHS] = zeros();
+            let labels = Labels::of(graph, g.labels, g.n, &mut starts, &mut lengths);
             Viewed {
                 file: File::Graph,
                 start: labels.start(five.v) + (five.x - 1),

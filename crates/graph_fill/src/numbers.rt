@@ -10,7 +10,10 @@ use wire::numbers::{Cursor, read_number};
 pub fn take_number(file: &[u8], cursor: Cursor) -> (u32, Cursor)
     ensures { (result.0 ≡ (one_number file.now cursor.at).content) × (result.1.at ≡ (one_number file.now cursor.at).next) }
 {
-    read_number(file, cursor).unwrap_or((0, cursor))
+    let Ok((value, next)) = read_number(file, cursor) else {
+        return (0, cursor);
+    };
+    (value, next)
 }
 
 // Fills `out` with numbers of the file, from a cursor on, and says the cursor after them.

@@ -9,14 +9,15 @@ ghost use Rattle.loaded.specs.Files.{file_in};
 use anchors_read::read_anchors;
 use listing_lines::{put_no_file, put_refused};
 use listing_result::{Found, put_result};
-use loaded::{both_files, room};
+use loaded::both_files;
 use sweep_placing::sweep;
+use wire_lent::zeros;
 
 // Room for any listing.
 pub fn listing_room() -> [u8; 163920]
     ensures { listing_room ≡ length result }
 {
-    room(0)
+    zeros()
 }
 
 // Lays the listing of two files' bytes, or the refusal, at the front of out, and says how many bytes that took.
@@ -24,14 +25,14 @@ fn list(graph: &[u8], file: &[u8], out: &mut [u8]) -> usize
     requires { listing_room ≤ length out.old }
     ensures { Listed graph.now file.now out.old out.new result }
 {
-    let mut scores: [u32; 2048] = room(0);
-    let mut chain: [u32; 2048] = room(0);
+    let mut scores: [u32; 2048] = zeros();
+    let mut chain: [u32; 2048] = zeros();
     let r = sweep(graph, file, &mut scores, &mut chain);
     if r.number != 0 {
         return put_refused(out, r.number, r.file, r.place);
     }
-    let mut letters: [u8; 32768] = room(0);
-    let mut numbers: [u32; 10240] = room(0);
+    let mut letters: [u8; 32768] = zeros();
+    let mut numbers: [u32; 10240] = zeros();
     read_anchors(graph, file, &mut letters, &mut numbers);
     let found = Found {
         anchors: r.anchors,

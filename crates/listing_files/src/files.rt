@@ -2,15 +2,16 @@
 ghost use Rattle.std.specs.Prelude.{◌+◌, ◌≤◌, length, ◌≡◌, IfSome};
 ghost use Rattle.wire.specs.Sizes.{most_file_bytes};
 
-use loaded::{read_part, room};
+use loaded::read_part;
 use std::rt::Files;
 use std::{fs, str};
+use wire_lent::zeros;
 
 // One byte more than a file may have, so that a longer file is seen to be longer.
 pub fn file_room() -> [u8; 65537]
     ensures { most_file_bytes + 1 ≡ length result }
 {
-    room(0)
+    zeros()
 }
 
 // The bytes of the file of that name, from its first. A file that is not opened, or not read to its end or as far as the room goes, is missing; so

@@ -13,8 +13,8 @@ abbrev pub file_in : Option (List ℕ) → File
 file_in (Some bytes) = read bytes
 file_in None = missing
 
--- the file that is missing, the graph file first, or none where both were read: for the code; the rule is `Output` (listing), tied by
--- `missing-printed`
+-- the file that is missing, the graph file first, or none where both were read: for the code; the rule is `Output` (listing), tied by the proof of
+-- `output` there
 abbrev pub missing_of : File → File → Option Missing
 missing_of missing anchors = Some Graph
 missing_of (read graph) missing = Some Anchors

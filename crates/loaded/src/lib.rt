@@ -56,10 +56,3 @@ pub fn read_part<'a, R: Read>(file: &mut R, room: &'a mut [u8]) -> io::Result<&'
     }
     Ok(&room[..n])
 }
-
-// A room of N places that hold x.
-pub fn room<T: Copy, const N: usize>(x: T) -> [T; N]
-    ensures { N ≡ length result }
-{
-    [x; N]
-}

@@ -84,7 +84,10 @@ pub fn list_chain(
     let last = top(scores);
     let at = way_back(s, scores, row, last, back);
     let way = &back[at..];
-    chain[..way.len()].copy_from_slice(way);
+    // No `copy_from_slice`: it would have the archive for C need `memmove`.
+    for i in 0..way.len() {
+        chain[i] = way[i];
+    }
     zero_rest(chain, way.len(), FULL_CHAIN);
     Chained {
         length: way.len(),

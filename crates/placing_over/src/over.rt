@@ -51,7 +51,7 @@ pub fn lay_chain(
 }
 
 // An engine's scores over a setting, and the chain by them. `row` is lent with a place for each vertex.
-fn score_chain<E: Engine>(
+pub fn score_chain<E: Engine>(
     s: &Setting<'_>,
     r: usize,
     row: &mut [u32],

@@ -64,5 +64,12 @@ pub fn say_numbers<W: Write>(to: &mut W, numbers: &[u32], from: usize, n: usize)
 pub fn count<T: PartialEq + Copy>(xs: &[T], x: T) -> u64
     ensures { result ≡ count_by (λ y. T.eq y x) xs.now }
 {
-    xs.iter().filter(|y| **y == x).count() as u64
+    let mut n: u64 = 0;
+    // No `filter` and `count`: they take twice the instructions (measured).
+    for y in xs {
+        if *y == x {
+            n += 1;
+        }
+    }
+    n
 }

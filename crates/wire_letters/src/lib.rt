@@ -40,6 +40,9 @@ pub fn put_letters(out: &mut [u8], letters: &[u8]) -> usize
     ensures { (result ≡ length letters.now) × (out.new ≡ front letters.now out.old) }
 {
     let n = letters.len();
-    out[..n].copy_from_slice(letters);
+    // No `copy_from_slice`: it would have the archive for C need `memmove`.
+    for i in 0..n {
+        out[i] = letters[i];
+    }
     n
 }

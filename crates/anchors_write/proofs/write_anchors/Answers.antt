@@ -1,6 +1,8 @@
 use Rattle.std.proofs.Common.{ℕ, ◌≡◌, List, Bool, sym, ap, ◌∙◌, length, arith}
 use Rattle.wire.specs.Refusals.{code}
 use Rattle.wire.specs.Found.{fault, refusal_number}
+use Rattle.wire.specs.Sizes.{full_lengths}
+use Rattle.wire_lent.proofs.Rooms.{room-long}
 use Rattle.graph.specs.Reading.{graph_of}
 use Rattle.graph.proofs.Faulty.{graph-fault}
 use Rattle.graph_content.proofs.Faulting.{code-some}
@@ -9,6 +11,7 @@ use Rattle.anchors.specs.AnchorEntries.{set_in, anchors_given, room_for_anchors,
 use Rattle.anchors.proofs.AnchorRooms.{full_buffers}
 use Rattle.anchors.proofs.AnchorWriting.{content-ranged}
 use Rattle.anchors_parts.specs.LabelTables.{content_of}
+use Rattle.anchors_parts.proofs.LabelLaws.{few-vertices}
 use Rattle.anchors_check.proofs.BothLaws.{graph-told}
 use Rattle.anchors_content.specs.Given.{given_of}
 use Rattle.anchors_bytes.proofs.Sizing.{bytes-length}
@@ -41,9 +44,14 @@ returns-in-Err c =
     let bad : graph_of a.graph.now ≡ fault (code c.in-Err.found.refusal) c.in-Err.found.place = faulty _ c.in-Err.ensures in
     graph_written g _ _ _ _ _ full bad c.fault.ensures
 
-pub of-labels-requires : goal.of-labels-requires
-of-labels-requires c =
+pub of-labels-requires-clause-labels_at : goal.of-labels-requires-clause-labels_at
+of-labels-requires-clause-labels_at c =
     (graph-told c.args.graph.now c.in-Ok.ensures).labels
+
+pub of-labels-requires-clause-room : goal.of-labels-requires-clause-room
+of-labels-requires-clause-room c =
+    let k = few-vertices _ _ _ (graph-told c.args.graph.now c.in-Ok.ensures).labels in
+    (omega (arith, k, room-long full_lengths c.zeros-starts.ensures), omega (arith, k, room-long full_lengths c.zeros-lengths.ensures))
 
 pub returns-in-Err-content_fault : goal.returns-in-Err-content_fault
 returns-in-Err-content_fault c =

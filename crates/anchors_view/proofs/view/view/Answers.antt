@@ -1,5 +1,8 @@
 use mathlib.Core.Path.{sym}
 use native.Mathlib.Omega.{arith}
+use Rattle.wire.specs.Sizes.{full_lengths}
+use Rattle.wire_lent.proofs.Rooms.{room-long}
+use Rattle.anchors_parts.proofs.LabelLaws.{few-vertices}
 use Rattle.anchors_view.proofs.Viewing.{none-told, past-told, labels-told, five-there, neither-told, vertex-told, label-fits, read-fits, label-told, read-told}
 use Rattle.anchors_view.proofs.view.view.Goals as goal
 use Rattle.anchors_view.proofs.view.view.Goals.{then-number-lt1-via-then-number-lt1, then-number-lt1-via-else-number-lt1+then-a-number}
@@ -17,8 +20,14 @@ returns-in_default-five_after c =
     let a = c.args in
     absurd (five-there a.graph.now a.anchors.now c.in-Ok.ensures a.number a.file (λ i. (c.type_inv.graph i).fits) (omega arith) (omega arith) c.in_default-five_after.ensures)
 
-pub of-labels-requires : goal.of-labels-requires
-of-labels-requires c = let a = c.args in labels-told a.graph.now a.anchors.now c.in-Ok.ensures a.number a.file
+pub of-labels-requires-clause-labels_at : goal.of-labels-requires-clause-labels_at
+of-labels-requires-clause-labels_at c = let a = c.args in labels-told a.graph.now a.anchors.now c.in-Ok.ensures a.number a.file
+
+pub of-labels-requires-clause-room : goal.of-labels-requires-clause-room
+of-labels-requires-clause-room c =
+    let a = c.args in
+    let k = few-vertices _ _ _ (labels-told a.graph.now a.anchors.now c.in-Ok.ensures a.number a.file) in
+    (omega (arith, k, room-long full_lengths c.zeros-starts.ensures), omega (arith, k, room-long full_lengths c.zeros-lengths.ensures))
 
 pub start-requires : goal.start-requires
 start-requires c =
