@@ -1,4 +1,4 @@
--- What code answers is one answer: each of the views `found`, `reading`, `told`, `replied` and `view_held` is one to one, and so a contract that fixes
+-- What code answers is one answer: each of the views `found`, `reading`, `told`, `replied`, `five_reading` and `view_held` is one to one, and so a contract that fixes
 -- the view fixes the answer. (`told` is, where there is one answer without a refusal, as in the code.)
 -- Assumes nothing.
 use Prim.Native.Nat.{ℕ}
@@ -31,7 +31,12 @@ use Rattle.wire.specs.declared.refusals.File.TheVariants.{Graph, Anchors}
 use Rattle.wire.specs.declared.refusals.Fault.{Fault}
 use Rattle.wire.specs.declared.refusals.FileFault.{FileFault}
 use Rattle.graph_content.proofs.Faulting.{code-some}
+use Rattle.anchors.specs.Anchors.{Anchor}
+use Rattle.anchors.specs.AnchorReading.{Numbers}
 use Rattle.anchors.specs.View.{View}
+use Rattle.anchors_rules.specs.OneAnchor.{anchor_of}
+use Rattle.anchors_rules.specs.declared.rules.Five.{Five}
+use Rattle.anchors_parts.specs.ReadAnchor.{five_reading}
 use Rattle.anchors_view.specs.Viewed.{view_held}
 use Rattle.anchors_view.specs.declared.view.Viewed.{Viewed}
 
@@ -156,3 +161,31 @@ view_held-one w x e =
     ap₂ (λ (file : File) (part : ℕ × ℕ). record { file = file; start = part.0; len = part.1 })
     (file-one w.file x.file (ap (λ (v : View). v.file) e))
     (ap₂ (λ (start len : ℕ). (start, len)) (ap (λ (v : View). v.start) e) (ap (λ (v : View). v.len) e))
+
+pub anchor_of-one : (a b : Five) → anchor_of a ≡ anchor_of b → a ≡ b
+anchor_of-one a b e = ap (λ (x : Anchor). record { v = x.v; x = x.x; c = x.c; len = x.len; weight = x.weight }) e
+
+abbrev anchor_in : Anchor → Found Numbers → Anchor
+anchor_in d (good r) = r.anchor
+anchor_in d (fault k q) = d
+
+abbrev weight_place : Found Numbers → ℕ
+weight_place (good r) = r.weight_at
+weight_place (fault k q) = q
+
+abbrev five_next : Found Numbers → ℕ
+five_next (good r) = r.next
+five_next (fault k q) = q
+
+abbrev five_code : Found Numbers → ℕ
+five_code (good r) = 0
+five_code (fault k q) = k
+
+pub five_reading-one : (r s : Result (Five × Cursor × Cursor) Fault) → five_reading r ≡ five_reading s → r ≡ s
+five_reading-one (Ok a) (Ok b) e =
+    ap₂ (λ (five : Five) (places : ℕ × ℕ). Ok (five, record { at = places.0 }, record { at = places.1 }))
+    (anchor_of-one a.0 b.0 (ap (anchor_in (anchor_of a.0)) e))
+    (ap₂ (λ (p q : ℕ). (p, q)) (ap weight_place e) (ap five_next e))
+five_reading-one (Ok a) (Err g) e = let n : 0 ≡ code g.refusal = ap five_code e in absurd (code-some g.refusal (sym n))
+five_reading-one (Err f) (Ok b) e = let n : code f.refusal ≡ 0 = ap five_code e in absurd (code-some f.refusal n)
+five_reading-one (Err f) (Err g) e = ap Err (fault-one f g (ap five_code e) (ap weight_place e))
