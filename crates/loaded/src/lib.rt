@@ -7,6 +7,9 @@ ghost use Rattle.loaded.specs.Files.{read, file_in, missing_of, number_of};
 use std::io;
 use std::io::Read;
 
+#[cfg(test)]
+mod tests; // tests.rt: a room's places
+
 // The file of the two that cannot be opened or read.
 #[derive(Clone, Copy, Debug, PartialEq, Eq)]
 pub enum Missing {
@@ -55,4 +58,11 @@ pub fn read_part<'a, R: Read>(file: &mut R, room: &'a mut [u8]) -> io::Result<&'
         n += k;
     }
     Ok(&room[..n])
+}
+
+// A room of N places that hold x.
+pub fn room<T: Copy, const N: usize>(x: T) -> [T; N]
+    ensures { N ≡ length result }
+{
+    [x; N]
 }
