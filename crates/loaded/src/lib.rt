@@ -1,7 +1,7 @@
 // What loading the two files gave: a file's bytes, or that there is none; and which of the two is missing.
 #![tactic(auto)]
 
-ghost use Rattle.std.specs.Prelude.{◌≡◌, ◌≤◌, Some, IfOk, IfErr, IfSome, length, take, option_copied};
+ghost use Rattle.std.specs.Prelude.{◌≡◌, ◌≤◌, Some, IfOk, IfErr, IfSome, length, take, replicate, option_copied};
 ghost use Rattle.loaded.specs.Files.{read, file_in, missing_of, number_of};
 
 use std::io;
@@ -62,7 +62,8 @@ pub fn read_part<'a, R: Read>(file: &mut R, room: &'a mut [u8]) -> io::Result<&'
 
 // A room of N places that hold x.
 pub fn room<T: Copy, const N: usize>(x: T) -> [T; N]
-    ensures { N ≡ length result }
+    ensures size { N ≡ length result }
+    ensures holds { result ≡ replicate N x }
 {
     [x; N]
 }
